@@ -1,1 +1,4 @@
 pub mod Errors
+pub mod Outside
+pub mod Shelf
+pub mod EventWord
