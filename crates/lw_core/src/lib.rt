@@ -1,0 +1,9 @@
+//! The core of the stack: one event at a time, its answer and the frames that it sends.
+#![tactic(auto)]
+
+mod event;
+mod frames;
+mod stack;
+
+pub use event::{Entry, Event, EventText, Reply};
+pub use stack::{Core, NoMemory};

@@ -1,0 +1,4 @@
+pub mod Faults
+pub mod Header
+pub mod Records
+pub mod Capture

@@ -1,0 +1,7 @@
+use Rattle.std.proofs.Common.{take}
+use Rattle.lw_transcript.specs.Page.{Prints}
+use Rattle.lw_transcript.specs.Transcript.{call_lines, numbered}
+use Rattle.lw_transcript.proofs.spelling.calls_part.Given as goal
+
+abbrev pub invariant-loop-place : goal.invariant-loop-place
+invariant-loop-place l = Prints l.initial.page l.page (numbered call_lines 1 (take l.place l.calls))

@@ -1,0 +1,8 @@
+use Rattle.std.proofs.Common.{take}
+use Rattle.std.specs.List.{flat_map}
+use Rattle.lw_transcript.specs.Page.{Prints}
+use Rattle.lw_transcript.specs.Transcript.{core_lines}
+use Rattle.lw_transcript.proofs.spelling.core_part.Given as goal
+
+abbrev pub invariant-loop-line : goal.invariant-loop-line
+invariant-loop-line l = Prints l.initial.page l.page (flat_map core_lines (take l.line-index l.lines))

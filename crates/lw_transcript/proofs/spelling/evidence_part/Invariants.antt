@@ -1,0 +1,8 @@
+use Rattle.std.proofs.Common.{take}
+use Rattle.std.specs.List.{flat_map}
+use Rattle.lw_transcript.specs.Page.{Prints}
+use Rattle.lw_transcript.specs.Transcript.{evidence_text}
+use Rattle.lw_transcript.proofs.spelling.evidence_part.Given as goal
+
+abbrev pub invariant-loop-evidence : goal.invariant-loop-evidence
+invariant-loop-evidence l = Prints l.initial.page l.page (flat_map evidence_text (take l.evidence-index l.seen))

@@ -1,0 +1,4 @@
+pub mod ArpLaws
+pub mod EthLaws
+pub mod FieldsLaws
+pub mod Rows

@@ -1,0 +1,3 @@
+pub mod Arp
+pub mod Eth
+pub mod Fields

@@ -1,0 +1,81 @@
+ghost use Rattle.std.specs.Prelude.{◌≡◌, ◌+◌, ◌≤◌, ◌++◌, length};
+ghost use Rattle.std.specs.Vec.{vec_capacity, vec_len};
+ghost use Rattle.byteorder.specs.Endian.{big_bytes};
+ghost use Rattle.lw_wire.specs.Fields.{ip_at, mac_at, u8_at, u16_at, u32_at};
+
+use byteorder::{BigEndian, ByteOrder};
+use lw_base::{Ip, Mac};
+
+/// The octet at a place.
+pub fn read_u8(octets: &[u8], place: usize) -> u8
+    requires { place + 1 ≤ length octets.now }
+    ensures { result ≡ u8_at place octets.now }
+{
+    octets[place]
+}
+
+/// The number in the two octets at a place.
+pub fn read_u16(octets: &[u8], place: usize) -> u16
+    requires { place + 2 ≤ length octets.now }
+    ensures { result ≡ u16_at place octets.now }
+{
+    let (_, field) = octets.split_at(place);
+    BigEndian::read_u16(field)
+}
+
+/// The number in the four octets at a place.
+pub fn read_u32(octets: &[u8], place: usize) -> u32
+    requires { place + 4 ≤ length octets.now }
+    ensures { result ≡ u32_at place octets.now }
+{
+    let (_, field) = octets.split_at(place);
+    BigEndian::read_u32(field)
+}
+
+/// The protocol address in the four octets at a place.
+pub fn read_ip(octets: &[u8], place: usize) -> Ip
+    requires { place + 4 ≤ length octets.now }
+    ensures { result ≡ ip_at place octets.now }
+{
+    Ip(read_u32(octets, place))
+}
+
+/// The hardware address in the six octets at a place.
+pub fn read_mac(octets: &[u8], place: usize) -> Mac
+    requires { place + 6 ≤ length octets.now }
+    ensures { result ≡ mac_at place octets.now }
+{
+    let mut mac = [0; 6];
+    mac.copy_from_slice(&octets[place..place + 6]);
+    Mac(mac)
+}
+
+/// Appends octets to a list that has room for them.
+pub fn put(octets: &[u8], out: &mut Vec<u8>)
+    requires { vec_len out.old + length octets.now ≤ vec_capacity out.old }
+    ensures items { out.new.items ≡ out.old.items ++ octets.now }
+    ensures len { vec_len out.new ≡ vec_len out.old + length octets.now }
+    ensures room { vec_capacity out.old ≤ vec_capacity out.new }
+{
+    let _ = out.extend_from_slice(octets);
+}
+
+/// Appends the two octets of a number.
+pub fn put_u16(number: u16, out: &mut Vec<u8>)
+    requires { vec_len out.old + 2 ≤ vec_capacity out.old }
+    ensures items { out.new.items ≡ out.old.items ++ big_bytes 2 number }
+    ensures len { vec_len out.new ≡ vec_len out.old + 2 }
+    ensures room { vec_capacity out.old ≤ vec_capacity out.new }
+{
+    put(&number.to_be_bytes(), out);
+}
+
+/// Appends the four octets of a number.
+pub fn put_u32(number: u32, out: &mut Vec<u8>)
+    requires { vec_len out.old + 4 ≤ vec_capacity out.old }
+    ensures items { out.new.items ≡ out.old.items ++ big_bytes 4 number }
+    ensures len { vec_len out.new ≡ vec_len out.old + 4 }
+    ensures room { vec_capacity out.old ≤ vec_capacity out.new }
+{
+    put(&number.to_be_bytes(), out);
+}
