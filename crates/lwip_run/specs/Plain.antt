@@ -1,0 +1,31 @@
+-- Calls that are made directly on a core: each is one turn of the serial schedule.
+use Rattle.std.specs.Prelude.{ℕ, ◌≡◌, ◌++◌, Bool, List, [], ◌∷◌, length, map}
+use Rattle.lw_core.specs.declared.event.Event.TheVariants.{Frame}
+use Rattle.lw_script.specs.declared.parts.Call.{Call}
+use Rattle.lw_transcript.specs.declared.lines.Evidence.{Evidence}
+use Rattle.lw_transcript.specs.declared.lines.Outcome.{Outcome}
+use Rattle.lw_transcript.specs.declared.lines.Outcome.TheVariants.{Fed}
+use Rattle.lw_actors.specs.declared.api.Step.{Step}
+use Rattle.lw_actors.specs.declared.api.Step.TheVariants.{Did}
+use Rattle.lw_rules.specs.Schedule.{Configuration, Turn, made, named_from, turn}
+
+-- a call that gave what a turn of the schedule gives
+pub record IsTurn (t : Turn) (added : List Evidence) (done : Step) (after : Configuration) : Type 0 where
+  pub config : after ≡ t.config
+  pub seen : added ≡ t.seen
+  pub result : done ≡ Did t.result
+
+-- each call is one turn of the schedule
+abbrev pub plain_gives : Configuration → ℕ → Call → Bool → List Evidence → Step → Configuration → Type 0
+plain_gives before actor call begun added done after = IsTurn (turn before actor call) added done after
+
+-- the first of the frames that are left is taken
+pub record TakesFrame (before after : Configuration) (frame : List ℕ) : Type 0 where
+  pub first : before.left ≡ frame ∷ after.left
+  pub rest : after ≡ record before { left = after.left }
+
+-- all frames that were left were fed
+pub record FedAll (actor : ℕ) (before after : Configuration) (seen_before seen_after : List Evidence) (outcome : Outcome) : Type 0 where
+  pub config : after ≡ record (made before actor (map Frame before.left)) { left = [] }
+  pub seen : seen_after ≡ seen_before ++ named_from (length before.entries) before.left
+  pub count : outcome ≡ Fed (length before.left)

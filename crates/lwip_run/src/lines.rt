@@ -1,0 +1,118 @@
+ghost use Rattle.std.specs.Prelude.{◌≡◌, [], ◌∷◌, IfOk};
+ghost use Rattle.lw_rules.specs.Lines.{core_line, core_lines_from, event_line, frames_sent, reply_line};
+ghost use Rattle.lw_rules.specs.Schedule.{body_of};
+ghost use Rattle.lw_script.specs.Driver.{driver_calls};
+ghost use Rattle.lwip_run.specs.Parts.{part_of, parts_of};
+
+use std::alloc::{AllocError, Global};
+
+use lw_actors::DoneCall;
+use lw_base::{Octets, Series};
+use lw_core::{Entry, Event, EventText, Reply};
+use lw_script::{Call, Script};
+use lw_transcript::{ActorPart, Body, CallPart, CoreLine, EndLine, EventLine, ReplyLine};
+
+/// The body of a transcript: the history, what the driver's calls saw and did, and the counts.
+pub fn body(alloc: Global, calls: &[Call], done: Vec<DoneCall>, entries: Vec<Entry>) -> Result<Body, AllocError>
+    ensures { IfOk result (λ b. b ≡ body_of entries.items (parts_of calls.now done.items)) }
+{
+    let core = u32::try_from(entries.len()).map_err(|_| AllocError)?;
+    let out = sent(&entries)?;
+    let lines = core_lines(alloc, entries)?;
+    let actors = driver_part(alloc, call_parts(alloc, calls, done)?)?;
+    Ok(Body {
+        core: Series::from_vec(lines),
+        actors: Series::from_vec(actors),
+        end: EndLine { core, out },
+    })
+}
+
+/// The calls of the driver: its commands, then one stop.
+pub fn all_calls(alloc: Global, script: &Script) -> Result<Vec<Call>, AllocError>
+    ensures { IfOk result (λ calls. calls.items ≡ driver_calls script.now) }
+{
+    let mut calls = Vec::from_slice(alloc, script.commands.as_slice())?;
+    calls.push(Call::Stop)?;
+    Ok(calls)
+}
+
+fn driver_part(alloc: Global, calls: Vec<CallPart>) -> Result<Vec<ActorPart>, AllocError>
+    ensures { IfOk result (λ parts. parts.items ≡ record { calls = calls.items } ∷ []) }
+{
+    let mut actors = Vec::new(alloc);
+    actors.push(ActorPart { calls: Series::from_vec(calls) })?;
+    Ok(actors)
+}
+
+/// The lines of a history, numbered from 1.
+fn core_lines(alloc: Global, entries: Vec<Entry>) -> Result<Vec<CoreLine>, AllocError>
+    ensures { IfOk result (λ lines. lines.items ≡ core_lines_from 1 entries.items) }
+{
+    let mut lines = Vec::with_capacity(alloc, entries.len())?;
+    let mut number = 1u32;
+    for entry in entries {
+        lines.push(line(number, entry))?;
+        number = number.checked_add(1).ok_or(AllocError)?;
+    }
+    Ok(lines)
+}
+
+fn line(number: u32, entry: Entry) -> CoreLine
+    ensures { result ≡ core_line number entry }
+{
+    let Entry { actor, event, frames, reply } = entry;
+    CoreLine { number, actor, event: event_text(event), reply: reply_text(reply), outs: frames }
+}
+
+fn event_text(event: EventText) -> EventLine
+    ensures { result ≡ event_line event }
+{
+    match event {
+        Event::Frame(octets) => EventLine::Frame(octets),
+        Event::Stop => EventLine::Stop,
+    }
+}
+
+fn reply_text(reply: Reply) -> ReplyLine
+    ensures { result ≡ reply_line reply }
+{
+    match reply {
+        Reply::Done => ReplyLine::Ok,
+    }
+}
+
+/// How many frames the entries sent.
+fn sent(entries: &[Entry]) -> Result<u32, AllocError>
+    ensures { IfOk result (λ n. n ≡ frames_sent entries.now) }
+{
+    let mut total = 0u32;
+    for entry in entries {
+        let frames = u32::try_from(entry.frames.len()).map_err(|_| AllocError)?;
+        total = total.checked_add(frames).ok_or(AllocError)?;
+    }
+    Ok(total)
+}
+
+/// What the calls saw and did, with their texts.
+fn call_parts(alloc: Global, calls: &[Call], done: Vec<DoneCall>) -> Result<Vec<CallPart>, AllocError>
+    ensures { IfOk result (λ parts. parts.items ≡ parts_of calls.now done.items) }
+{
+    let mut parts = Vec::with_capacity(alloc, done.len())?;
+    let mut rest = calls;
+    for ended in done {
+        let [call, behind @ ..] = rest else {
+            break;
+        };
+        parts.push(part(alloc, *call, ended)?)?;
+        rest = behind;
+    }
+    Ok(parts)
+}
+
+fn part(alloc: Global, call: Call, ended: DoneCall) -> Result<CallPart, AllocError>
+    ensures { IfOk result (λ p. p ≡ part_of call ended) }
+{
+    let text = Octets::from_vec(Vec::from_slice(alloc, call.text().as_bytes())?);
+    let DoneCall { seen, result } = ended;
+    Ok(CallPart { text, seen, result })
+}

@@ -1,0 +1,34 @@
+ghost use Rattle.std.specs.Prelude.{◌≡◌, IfOk};
+ghost use Rattle.lw_rules.specs.Schedule.{serial_transcript};
+
+use std::alloc::{AllocError, Global};
+
+use lw_base::FrameList;
+use lw_core::Core;
+use lw_netif::Netif;
+use lw_script::Script;
+use lw_serial::run_serial;
+use lw_transcript::{Kind, Transcript, Version};
+
+use crate::lines::{all_calls, body};
+use crate::plain_api::PlainApi;
+
+/// Runs a script on one thread, fed with these frames.
+pub fn serial(alloc: Global, script: &Script, frames: FrameList) -> Result<Transcript, AllocError>
+    ensures { IfOk result (λ t. t ≡ serial_transcript script.now frames) }
+{
+    let core = Core::new(alloc, netif(script), script.profile.limits())?;
+    let mut api = PlainApi::new(alloc, core, frames);
+    let mut progress = run_serial(alloc, &mut api, script)?;
+    let done = progress.remove(0).done.into_vec();
+    let calls = all_calls(alloc, script)?;
+    let body = body(alloc, &calls, done, api.into_entries())?;
+    Ok(Transcript { version: Version::One, kind: Kind::Serial, body })
+}
+
+fn netif(script: &Script) -> Netif
+    ensures { result ≡ script.now.net }
+{
+    let net = script.net;
+    Netif::new(net.ip, net.mask, net.gateway, net.mac)
+}
