@@ -1,6 +1,6 @@
 -- What is known while frames are fed.
-use Rattle.std.proofs.Common.{ℕ, ◌≡◌, ◌+◌, ◌++◌, ◌∙◌, List, [], ◌∷◌, suc, length, map, ap, subst, sym, refl, arith, add-zero, append_assoc, append-nil}
-use Rattle.std.proofs.lemmas.List.{length-append, map-append}
+use Rattle.std.proofs.Common.{ℕ, ◌≡◌, ◌+◌, ◌++◌, ◌∙◌, List, [], ◌∷◌, suc, length, map, ap, sym, refl, arith, add-zero, append_assoc, append-nil}
+use Rattle.std.proofs.lemmas.List.{length-append}
 use Rattle.lw_core.specs.declared.event.Event.{Event}
 use Rattle.lw_core.specs.declared.event.Event.TheVariants.{Frame}
 use Rattle.lw_core.specs.declared.event.Entry.{Entry}
@@ -64,42 +64,42 @@ feeds_one actor before now taken after seen_before seen_now seen_after frame num
     let is_state : taken.state ≡ s = state_kept ∙ so_far.state in
     let left_is : after.left ≡ taken.left = ap (λ (c : Configuration). c.left) makes in
     let long : length taken.entries ≡ length before.entries + length so_far.done =
-        ap length (kept ∙ so_far.entries)
-        ∙ (length-append before.entries (entries_of before.state actor events)
-        ∙ ap (λ k. length before.entries + k) (length_fed before.state actor so_far.done)) in
+    ap length (kept ∙ so_far.entries)
+    ∙ (length-append before.entries (entries_of before.state actor events)
+    ∙ ap (λ k. length before.entries + k) (length_fed before.state actor so_far.done)) in
     record {
       done = so_far.done ++ frame ∷ [];
       split = so_far.split
-      ∙ ap (λ (fs : List (List ℕ)). so_far.done ++ fs) (takes.first ∙ ap (λ (fs : List (List ℕ)). frame ∷ fs) (sym left_is))
-      ∙ sym (append_assoc so_far.done (frame ∷ []) after.left);
+          ∙ ap (λ (fs : List (List ℕ)). so_far.done ++ fs) (takes.first ∙ ap (λ (fs : List (List ℕ)). frame ∷ fs) (sym left_is))
+          ∙ sym (append_assoc so_far.done (frame ∷ []) after.left);
       state = ap (λ (c : Configuration). c.state) makes
-      ∙ ap (λ (t : State). (step t (Frame frame)).state) is_state
-      ∙ sym (state_more before.state events (Frame frame))
-      ∙ ap (λ (es : List (Event (List ℕ))). state_after before.state es) (sym (frames_more so_far.done frame));
+          ∙ ap (λ (t : State). (step t (Frame frame)).state) is_state
+          ∙ sym (state_more before.state events (Frame frame))
+          ∙ ap (λ (es : List (Event (List ℕ))). state_after before.state es) (sym (frames_more so_far.done frame));
       entries = ap (λ (c : Configuration). c.entries) makes
-      ∙ ap (λ (t : State). taken.entries ++ entry_of t actor (Frame frame) ∷ []) is_state
-      ∙ ap (λ (es : List Entry). es ++ entry_of s actor (Frame frame) ∷ []) (kept ∙ so_far.entries)
-      ∙ append_assoc before.entries (entries_of before.state actor events) (entry_of s actor (Frame frame) ∷ [])
-      ∙ ap (λ (es : List Entry). before.entries ++ es) (sym (entries_more before.state actor events (Frame frame)))
-      ∙ ap (λ (es : List (Event (List ℕ))). before.entries ++ entries_of before.state actor es) (sym (frames_more so_far.done frame));
+          ∙ ap (λ (t : State). taken.entries ++ entry_of t actor (Frame frame) ∷ []) is_state
+          ∙ ap (λ (es : List Entry). es ++ entry_of s actor (Frame frame) ∷ []) (kept ∙ so_far.entries)
+          ∙ append_assoc before.entries (entries_of before.state actor events) (entry_of s actor (Frame frame) ∷ [])
+          ∙ ap (λ (es : List Entry). before.entries ++ es) (sym (entries_more before.state actor events (Frame frame)))
+          ∙ ap (λ (es : List (Event (List ℕ))). before.entries ++ entries_of before.state actor es) (sym (frames_more so_far.done frame));
       seen = sees
-      ∙ ap (λ (names : List Evidence). names ++ At number ∷ []) so_far.seen
-      ∙ append_assoc seen_before (named_from (length before.entries) so_far.done) (At number ∷ [])
-      ∙ ap (λ k. seen_before ++ (named_from (length before.entries) so_far.done ++ At k ∷ [])) (numbered ∙ ap (λ k. k + 1) long)
-      ∙ ap (λ (names : List Evidence). seen_before ++ names) (sym (named_more (length before.entries) so_far.done frame))
+          ∙ ap (λ (names : List Evidence). names ++ At number ∷ []) so_far.seen
+          ∙ append_assoc seen_before (named_from (length before.entries) so_far.done) (At number ∷ [])
+          ∙ ap (λ k. seen_before ++ (named_from (length before.entries) so_far.done ++ At k ∷ [])) (numbered ∙ ap (λ k. k + 1) long)
+          ∙ ap (λ (names : List Evidence). seen_before ++ names) (sym (named_more (length before.entries) so_far.done frame));
     }
 
 -- all frames were fed
 pub all_fed : (actor : ℕ) (before now : Configuration) (seen_before seen_now : List Evidence) → Feeding actor before now seen_before seen_now → now.left ≡ [] → FedAll actor before now seen_before seen_now (Fed (length before.left))
 all_fed actor before now seen_before seen_now so_far none =
     let whole : so_far.done ≡ before.left =
-        sym (append-nil so_far.done) ∙ ap (λ (fs : List (List ℕ)). so_far.done ++ fs) (sym none) ∙ sym so_far.split in
+    sym (append-nil so_far.done) ∙ ap (λ (fs : List (List ℕ)). so_far.done ++ fs) (sym none) ∙ sym so_far.split in
     let config = λ (s : State) (fs : List (List ℕ)) (es : List Entry). let c : Configuration = record { state = s; left = fs; entries = es } in c in
     record {
       config = ap (λ (s : State). config s now.left now.entries) so_far.state
-      ∙ ap (λ (fs : List (List ℕ)). config (state_after before.state (map Frame so_far.done)) fs now.entries) none
-      ∙ ap (λ (es : List Entry). config (state_after before.state (map Frame so_far.done)) [] es) so_far.entries
-      ∙ ap (λ (fs : List (List ℕ)). config (state_after before.state (map Frame fs)) [] (before.entries ++ entries_of before.state actor (map Frame fs))) whole;
+          ∙ ap (λ (fs : List (List ℕ)). config (state_after before.state (map Frame so_far.done)) fs now.entries) none
+          ∙ ap (λ (es : List Entry). config (state_after before.state (map Frame so_far.done)) [] es) so_far.entries
+          ∙ ap (λ (fs : List (List ℕ)). config (state_after before.state (map Frame fs)) [] (before.entries ++ entries_of before.state actor (map Frame fs))) whole;
       seen = so_far.seen ∙ ap (λ (fs : List (List ℕ)). seen_before ++ named_from (length before.entries) fs) whole;
-      count = refl
+      count = refl;
     }

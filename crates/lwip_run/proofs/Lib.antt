@@ -2,3 +2,6 @@ pub mod InputLemmas
 pub mod OutputLemmas
 pub mod Feeding
 pub mod OneThread
+pub mod Fronts
+pub mod Forms
+pub mod Clauses

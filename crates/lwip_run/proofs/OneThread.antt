@@ -12,7 +12,6 @@ use Rattle.lw_transcript.specs.declared.lines.Outcome.{Outcome}
 use Rattle.lw_transcript.specs.declared.lines.CallPart.{CallPart}
 use Rattle.lw_transcript.specs.declared.lines.Body.{Body}
 use Rattle.lw_transcript.specs.declared.lines.Transcript.{Transcript}
-use Rattle.lw_actors.specs.declared.api.Step.{Step}
 use Rattle.lw_actors.specs.declared.api.Step.TheVariants.{Did}
 use Rattle.lw_actors.specs.declared.progress.DoneCall.{DoneCall}
 use Rattle.lw_actors.specs.declared.progress.Progress.{Progress}
@@ -20,7 +19,7 @@ use Rattle.lw_actors.specs.Runs.{Ran}
 use Rattle.lw_rules.specs.Schedule.{Configuration, turn, after_calls, call_parts, beginning, body_of, serial_transcript}
 use Rattle.lw_serial.specs.Rounds.{IsSerialRun}
 use Rattle.lwip_run.specs.Plain.{plain_gives}
-use Rattle.lwip_run.specs.Parts.{part_of, parts_of}
+use Rattle.lwip_run.specs.Parts.{parts_of}
 
 -- calls made one after another leave what the schedule leaves
 ran_config : (c : Configuration) (calls : List Call) (done : List DoneCall) (after : Configuration) → Ran plain_gives 0 c calls done after → after ≡ after_calls c 0 calls
@@ -54,15 +53,15 @@ run_is_serial script frames begun ended all first entries calls done body begins
     let driver : first ≡ run.driver = is_first ∙ ap (λ (ps : List Progress). slice_index_or ps 0 first) run.only in
     let list : done ≡ run.driver.done = is_done ∙ ap (λ (p : Progress). p.done) driver in
     let ran : Ran plain_gives 0 (beginning script frames) (driver_calls script) done ended =
-        subst (λ (ds : List DoneCall). Ran plain_gives 0 (beginning script frames) (driver_calls script) ds ended) (sym list)
-        (subst (λ (c : Configuration). Ran plain_gives 0 c (driver_calls script) run.driver.done ended) begins run.ran) in
+    subst (λ (ds : List DoneCall). Ran plain_gives 0 (beginning script frames) (driver_calls script) ds ended) (sym list)
+    (subst (λ (c : Configuration). Ran plain_gives 0 c (driver_calls script) run.driver.done ended) begins run.ran) in
     let transcript = λ (b : Body). let t : Transcript = record { version = One; kind = Serial; body = b } in t in
     ap transcript
     (
-      is_body
-      ∙ ap (λ (cs : List Call). body_of entries (parts_of cs done)) is_calls
-      ∙ ap (λ (es : List Entry). body_of es (parts_of (driver_calls script) done))
-      (is_entries ∙ ap (λ (c : Configuration). c.entries) (ran_config (beginning script frames) (driver_calls script) done ended ran))
-      ∙ ap (λ (ps : List CallPart). body_of (after_calls (beginning script frames) 0 (driver_calls script)).entries ps)
-      (ran_parts (beginning script frames) (driver_calls script) done ended ran)
+    is_body
+    ∙ ap (λ (cs : List Call). body_of entries (parts_of cs done)) is_calls
+    ∙ ap (λ (es : List Entry). body_of es (parts_of (driver_calls script) done))
+    (is_entries ∙ ap (λ (c : Configuration). c.entries) (ran_config (beginning script frames) (driver_calls script) done ended ran))
+    ∙ ap (λ (ps : List CallPart). body_of (after_calls (beginning script frames) 0 (driver_calls script)).entries ps)
+    (ran_parts (beginning script frames) (driver_calls script) done ended ran)
     )

@@ -1,2 +1,5 @@
 pub mod Plain
 pub mod Parts
+pub mod Serial
+pub mod Answers
+pub mod Comes

@@ -1,13 +1,19 @@
 //! The loops through which the program reads its files and writes its texts.
 #![tactic(auto)]
 
+mod files_in;
 mod inputs;
 mod lines;
-mod outputs;
-mod plain_api;
 mod one_thread;
+mod outputs;
+mod plain;
+mod plain_api;
+mod refusal;
+mod texts;
 
 pub use inputs::{InputFault, read_whole};
-pub use outputs::write_whole;
-pub use plain_api::PlainApi;
 pub use one_thread::serial;
+pub use outputs::write_whole;
+pub use plain::lwip_plain;
+pub use plain_api::PlainApi;
+pub use refusal::Refusal;

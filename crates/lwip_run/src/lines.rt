@@ -4,16 +4,20 @@ ghost use Rattle.lw_rules.specs.Schedule.{body_of};
 ghost use Rattle.lw_script.specs.Driver.{driver_calls};
 ghost use Rattle.lwip_run.specs.Parts.{part_of, parts_of};
 
-use std::alloc::{AllocError, Global};
-
 use lw_actors::DoneCall;
 use lw_base::{Octets, Series};
 use lw_core::{Entry, Event, EventText, Reply};
 use lw_script::{Call, Script};
 use lw_transcript::{ActorPart, Body, CallPart, CoreLine, EndLine, EventLine, ReplyLine};
+use std::alloc::{AllocError, Global};
 
 /// The body of a transcript: the history, what the driver's calls saw and did, and the counts.
-pub fn body(alloc: Global, calls: &[Call], done: Vec<DoneCall>, entries: Vec<Entry>) -> Result<Body, AllocError>
+pub fn body(
+    alloc: Global,
+    calls: &[Call],
+    done: Vec<DoneCall>,
+    entries: Vec<Entry>,
+) -> Result<Body, AllocError>
     ensures { IfOk result (λ b. b ≡ body_of entries.items (parts_of calls.now done.items)) }
 {
     let core = u32::try_from(entries.len()).map_err(|_| AllocError)?;
@@ -40,7 +44,9 @@ fn driver_part(alloc: Global, calls: Vec<CallPart>) -> Result<Vec<ActorPart>, Al
     ensures { IfOk result (λ parts. parts.items ≡ record { calls = calls.items } ∷ []) }
 {
     let mut actors = Vec::new(alloc);
-    actors.push(ActorPart { calls: Series::from_vec(calls) })?;
+    actors.push(ActorPart {
+        calls: Series::from_vec(calls),
+    })?;
     Ok(actors)
 }
 
@@ -60,8 +66,19 @@ fn core_lines(alloc: Global, entries: Vec<Entry>) -> Result<Vec<CoreLine>, Alloc
 fn line(number: u32, entry: Entry) -> CoreLine
     ensures { result ≡ core_line number entry }
 {
-    let Entry { actor, event, frames, reply } = entry;
-    CoreLine { number, actor, event: event_text(event), reply: reply_text(reply), outs: frames }
+    let Entry {
+        actor,
+        event,
+        frames,
+        reply,
+    } = entry;
+    CoreLine {
+        number,
+        actor,
+        event: event_text(event),
+        reply: reply_text(reply),
+        outs: frames,
+    }
 }
 
 fn event_text(event: EventText) -> EventLine
@@ -94,7 +111,11 @@ fn sent(entries: &[Entry]) -> Result<u32, AllocError>
 }
 
 /// What the calls saw and did, with their texts.
-fn call_parts(alloc: Global, calls: &[Call], done: Vec<DoneCall>) -> Result<Vec<CallPart>, AllocError>
+fn call_parts(
+    alloc: Global,
+    calls: &[Call],
+    done: Vec<DoneCall>,
+) -> Result<Vec<CallPart>, AllocError>
     ensures { IfOk result (λ parts. parts.items ≡ parts_of calls.now done.items) }
 {
     let mut parts = Vec::with_capacity(alloc, done.len())?;

@@ -1,17 +1,15 @@
 ghost use Rattle.std.specs.Prelude.{◌≡◌, IfOk};
 ghost use Rattle.lw_rules.specs.Schedule.{serial_transcript};
 
-use std::alloc::{AllocError, Global};
-
+use crate::lines::{all_calls, body};
+use crate::plain_api::PlainApi;
 use lw_base::FrameList;
 use lw_core::Core;
 use lw_netif::Netif;
 use lw_script::Script;
 use lw_serial::run_serial;
 use lw_transcript::{Kind, Transcript, Version};
-
-use crate::lines::{all_calls, body};
-use crate::plain_api::PlainApi;
+use std::alloc::{AllocError, Global};
 
 /// Runs a script on one thread, fed with these frames.
 pub fn serial(alloc: Global, script: &Script, frames: FrameList) -> Result<Transcript, AllocError>
@@ -23,7 +21,11 @@ pub fn serial(alloc: Global, script: &Script, frames: FrameList) -> Result<Trans
     let done = progress.remove(0).done.into_vec();
     let calls = all_calls(alloc, script)?;
     let body = body(alloc, &calls, done, api.into_entries())?;
-    Ok(Transcript { version: Version::One, kind: Kind::Serial, body })
+    Ok(Transcript {
+        version: Version::One,
+        kind: Kind::Serial,
+        body,
+    })
 }
 
 fn netif(script: &Script) -> Netif

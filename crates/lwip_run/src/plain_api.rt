@@ -2,15 +2,14 @@ ghost use Rattle.std.specs.Prelude.{◌≡◌, ◌+◌, ◌++◌, [], ◌∷◌,
 ghost use Rattle.lw_rules.specs.Schedule.{made, named_from, turn};
 ghost use Rattle.lwip_run.specs.Plain.{FedAll, TakesFrame};
 
-use std::alloc::{AllocError, Global};
-use std::marker::Model;
-use std::vec::IntoIter;
-
 use lw_actors::{Api, Step};
 use lw_base::{FrameList, Octets};
 use lw_core::{Core, Entry, Event};
 use lw_script::Call;
 use lw_transcript::{Evidence, Outcome};
+use std::alloc::{AllocError, Global};
+use std::marker::Model;
+use std::vec::IntoIter;
 
 /// The calls of a script made directly on a core, on one thread. Contracts see it as a configuration
 /// of the serial schedule.
@@ -35,7 +34,11 @@ impl PlainApi {
     pub fn new(alloc: Global, core: Core, frames: FrameList) -> PlainApi
         ensures { result ≡ record { state = core; left = frames; entries = [] } }
     {
-        PlainApi { core, left: frames.into_vec().into_iter(), entries: Vec::new(alloc) }
+        PlainApi {
+            core,
+            left: frames.into_vec().into_iter(),
+            entries: Vec::new(alloc),
+        }
     }
 
     /// The history.
@@ -71,7 +74,12 @@ impl PlainApi {
     }
 
     /// Feeds the frames that are left.
-    fn feed_all(&mut self, alloc: Global, actor: u32, seen: &mut Vec<Evidence>) -> Result<Outcome, AllocError>
+    fn feed_all(
+        &mut self,
+        alloc: Global,
+        actor: u32,
+        seen: &mut Vec<Evidence>,
+    ) -> Result<Outcome, AllocError>
         ensures { IfOk result (λ outcome. FedAll actor self.old self.new seen.old.items seen.new.items outcome) }
     {
         let count = u32::try_from(self.left()).map_err(|_| AllocError)?;
@@ -83,7 +91,12 @@ impl PlainApi {
     }
 
     /// Ends the run.
-    fn stop(&mut self, alloc: Global, actor: u32, seen: &mut Vec<Evidence>) -> Result<Outcome, AllocError>
+    fn stop(
+        &mut self,
+        alloc: Global,
+        actor: u32,
+        seen: &mut Vec<Evidence>,
+    ) -> Result<Outcome, AllocError>
         ensures { IfOk result (λ outcome. (self.new ≡ made self.old actor (Event.Stop ∷ [])) × (seen.new.items ≡ seen.old.items ++ Evidence.At (length self.old.entries + 1) ∷ []) × (outcome ≡ Outcome.Ok)) }
     {
         let number = self.make(alloc, actor, Event::Stop)?;
@@ -102,7 +115,14 @@ impl Api for PlainApi {
 
     ghost gives = { plain_gives };
 
-    fn call(&mut self, alloc: Global, actor: u32, call: Call, _begun: bool, seen: &mut Vec<Evidence>) -> Result<Step, AllocError> {
+    fn call(
+        &mut self,
+        alloc: Global,
+        actor: u32,
+        call: Call,
+        _begun: bool,
+        seen: &mut Vec<Evidence>,
+    ) -> Result<Step, AllocError> {
         let outcome = match call {
             Call::FeedAll => self.feed_all(alloc, actor, seen)?,
             Call::Stop => self.stop(alloc, actor, seen)?,

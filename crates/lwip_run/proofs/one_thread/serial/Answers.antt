@@ -1,4 +1,4 @@
-use Rattle.std.proofs.Common.{ℕ, ◌≡◌, ◌∙◌, List, [], ap, sym}
+use Rattle.std.proofs.Common.{◌≡◌, ◌∙◌, [], ap}
 use Rattle.lw_base.specs.declared.addresses.Net.{Net}
 use Rattle.lw_base.specs.declared.limits.Limits.{Limits}
 use Rattle.lw_core.specs.State.{State, opening}
@@ -10,12 +10,12 @@ use Rattle.lwip_run.proofs.one_thread.serial.Goals as goal
 pub returns : goal.returns
 returns c =
     let core : c.in_ok-core.core ≡ opening c.args.script.now.net (limits_of c.args.script.now.profile) =
-        c.in_ok-core.ensures
-        ∙ ap (λ (net : Net). opening net c.limits.result) c.netif.ensures
-        ∙ ap (λ (limits : Limits). opening c.args.script.now.net limits) c.limits.ensures in
+    c.in_ok-core.ensures
+    ∙ ap (λ (net : Net). opening net c.limits.result) c.netif.ensures
+    ∙ ap (λ (limits : Limits). opening c.args.script.now.net limits) c.limits.ensures in
     let begins : c.new-api.result ≡ beginning c.args.script.now c.args.frames =
-        c.new-api.ensures
-        ∙ ap (λ (s : State). let begun : Configuration = record { state = s; left = c.args.frames; entries = [] } in begun) core in
+    c.new-api.ensures
+    ∙ ap (λ (s : State). let begun : Configuration = record { state = s; left = c.args.frames; entries = [] } in begun) core in
     run_is_serial c.args.script.now c.args.frames c.new-api.result c.run_serial.new.api c.in_ok-progress.progress.items
     c.remove.result c.into_entries.result.items c.deref.result.now c.into_vec-done.result.items c.in_ok-body.body
     begins c.in_ok-progress.ensures c.remove.ensures.value c.into_vec-done.ensures c.into_entries.ensures

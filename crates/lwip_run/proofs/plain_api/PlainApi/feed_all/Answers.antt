@@ -5,8 +5,8 @@ pub loop-octets-preserved : goal.loop-octets-preserved
 loop-octets-preserved c =
     record {
       fed = feeds_one c.args.actor c.args.self.now c.loop-octets.self c.next_frame.new.self c.make.new.self
-      c.args.seen.now.items c.loop-octets.seen.items c.push.new.self.items c.in-Some.octets c.in_ok-number.number
-      c.loop-octets.invariant.fed c.in-Some.ensures c.in_ok-number.ensures.0 c.in_ok-number.ensures.1
-      c.in_ok-push.ensures.items;
-      counted = c.loop-octets.invariant.counted
+          c.args.seen.now.items c.loop-octets.seen.items c.push.new.self.items c.in-Some.octets c.in_ok-number.number
+          c.loop-octets.invariant.fed c.in-Some.ensures c.in_ok-number.ensures.0 c.in_ok-number.ensures.1
+          c.in_ok-push.ensures.items;
+      counted = c.loop-octets.invariant.counted;
     }

@@ -1,0 +1,14 @@
+use Rattle.lwip_run.proofs.Fronts.{first_front, on_error, second_front}
+use Rattle.lwip_run.proofs.refusal.write_two.Goals as goal
+
+pub returns-in_err-write_whole-clause-failed : goal.returns-in_err-write_whole-clause-failed
+returns-in_err-write_whole-clause-failed g c =
+    let written = g.K.Sink.written in
+    on_error c.from_residual.result
+    (first_front (written c.args.sink.now) (written c.write_whole.new.sink) c.args.first.now c.args.second.now c.in_err-write_whole.ensures.failed)
+
+pub returns-in_err-write_whole-2-clause-failed : goal.returns-in_err-write_whole-2-clause-failed
+returns-in_err-write_whole-2-clause-failed g c =
+    let written = g.K.Sink.written in
+    on_error c.from_residual-in_err-write_whole-2.result
+    (second_front (written c.args.sink.now) (written c.write_whole.new.sink) (written c.write_whole-2.new.sink) c.args.first.now c.args.second.now c.in_ok-write_whole.ensures.ok c.in_err-write_whole-2.ensures.failed)
