@@ -1,0 +1,48 @@
+//! A number to which calls add.
+ghost use Rattle.std.specs.Prelude.{◌≡◌, ℕ, ◌+◌, ◌%◌, ◌^◌};
+
+use hist_lock::{NoMemory, Serial};
+
+#[derive(Drop)]
+pub struct Counter {
+    pub total: u64,
+}
+
+#[derive(Drop)]
+pub struct Addition {
+    pub by: u32,
+    pub amount: u64,
+}
+
+impl Serial for Counter {
+    type Ev = u64;
+
+    type Reply = u64;
+
+    type Entry = Addition;
+
+    ghost State = { ℕ };
+
+    ghost Tag = { Unit {0} };
+
+    ghost state = { λ c. c.total };
+
+    ghost tag = { λ _. tt };
+
+    ghost fits = { λ _ _. Unit {0} };
+
+    ghost by = { λ e. e.by };
+
+    ghost tells = { λ e amount _. e.amount ≡ amount };
+
+    ghost steps = { λ before e after. after ≡ (before + e.amount) % 2 ^ 64 };
+
+    fn step(&mut self, actor: u32, ev: u64) -> Result<(Addition, u64), (NoMemory, u64)> {
+        self.total = self.total.wrapping_add(ev);
+        let entry = Addition {
+            by: actor,
+            amount: ev,
+        };
+        Ok((entry, self.total))
+    }
+}

@@ -1,0 +1,108 @@
+-- What each step on a mailbox's table tells, and how a seat's knowledge is cut and joined.
+use Rattle.std.specs.Prelude.{◌≡◌, ◌≢◌, ℕ, ◌+◌, ◌-◌, ◌%◌, ◌≤◌, Bool, true, false, [], ◌∷◌, ◌++◌, Option, Some, None, Result, Ok, Err}
+use Rattle.atomic_table.specs.Table.{Me, Step}
+use Rattle.lw_base.specs.declared.event_word.Word.{Word}
+use Rattle.lw_mbox.specs.declared.view.Change.TheVariants.{Post, Set, Clear}
+use Rattle.lw_mbox.specs.declared.view.Got.{Got}
+use Rattle.lw_mbox.specs.declared.view.Steps.{Steps}
+use Rattle.lw_mbox.specs.declared.view.View.{View}
+use Rattle.lw_mbox.specs.Changes.{flag_at, Shows, posted}
+use Rattle.lw_mbox.specs.Trail.{Trail, start, saw, rests, both, IsNewer}
+use Rattle.lw_mbox.specs.History.{IsWord, times, GotAll, Parted, AllBelow, Told}
+use Rattle.lw_mbox.specs.Rule.{word_of, code_of}
+
+abbrev pub steps : Trail → Steps
+steps t = record { met = t }
+
+module _ {T : Type 0} where
+  abbrev pub ticket : ℕ → T → Bool → Got T
+  ticket n x drained = record { ticket = n; item = x; drained = drained }
+
+-- the number found is an event word, and no load of the trail is newer
+pub record Loads (t : Trail) (n : ℕ) : Type 0 where
+  pub word : IsWord (word_of n)
+  pub exact : n ≡ code_of (word_of n)
+  pub newer : IsNewer t (word_of n)
+
+abbrev Seen : Type 0 → Type 0 → Type 0
+Seen T K = Me (Option T) (View T K)
+
+abbrev At : Type 0 → Type 0
+At T = Step (Option T)
+
+module _ {T K : Type 0} where
+  -- a seat that knows only this trail
+  abbrev pub fresh : Option K → ℕ → Trail → View T K
+  fresh key parts t = record { key = key; lead = false; changes = []; posting = false; marks = []; back = []; parts = parts; asked = 0; trail = steps t; got = []; holds = None }
+
+  -- the first seat, which has all parts
+  abbrev pub leading : K → View T K
+  leading key = record { key = Some key; lead = true; changes = []; posting = false; marks = []; back = []; parts = 256; asked = 0; trail = steps start; got = []; holds = None }
+
+  -- the seat after a load of the event word w
+  abbrev pub seen : Word → View T K → View T K
+  seen w v = record v { trail = steps (saw v.trail.met w) }
+
+  -- the seat that took in another: its trail too, or as one that came back
+  abbrev pub joined : View T K → View T K → View T K
+  joined v u = record v { trail = steps (both v.trail.met u.trail.met); back = v.back ++ u.back; parts = v.parts + u.parts; got = v.got ++ u.got }
+
+  abbrev pub gathered : View T K → View T K → View T K
+  gathered v u = record v { back = v.back ++ (u.trail ∷ u.back); parts = v.parts + u.parts; got = v.got ++ u.got }
+
+  abbrev pub spent : View T K
+  spent = fresh None 0 start
+
+  -- the place of the next ticket may be posted at, and then its empty slot was taken, or its last item was not yet marked emptied
+  abbrev pub marked : At T → Seen T K → ℕ → Seen T K → Type 0
+  marked st m n m' =
+      (n ≡ posted m.0.changes → (m'.0 ≡ record m.0 { posting = true; marks = m.0.marks ++ n ∷ [] }) × (m'.1 ≡ (st.word - 1, None) ∷ m.1))
+      × (n ≢ posted m.0.changes → (m'.0 ≡ record m.0 { marks = m.0.marks ++ n ∷ [] }) × (m'.1 ≡ m.1) × (n + st.slots ≡ posted m.0.changes))
+
+  abbrev pub announced : At T → Seen T K → ℕ → Seen T K → Type 0
+  announced st m n m' = (j : ℕ) (x : T) → m.1 ≡ (j, Some x) ∷ []
+      → (m'.0 ≡ record m.0 { posting = false; changes = m.0.changes ++ Post x ∷ [] }) × (m'.1 ≡ [])
+
+  abbrev pub sets_flag : At T → Seen T K → ℕ → Seen T K → Type 0
+  sets_flag st m n m' = (m'.0 ≡ record m.0 { changes = m.0.changes ++ Set (flag_at st.first) ∷ [] }) × (m'.1 ≡ m.1)
+      × IsWord (word_of n) × Shows m.0.changes (word_of n)
+
+  abbrev pub clears_flag : At T → Seen T K → ℕ → Seen T K → Type 0
+  clears_flag st m n m' = (m'.0 ≡ record m.0 { changes = m.0.changes ++ Clear (flag_at (18446744073709551615 - st.first)) ∷ [] }) × (m'.1 ≡ m.1)
+      × IsWord (word_of n) × Shows m.0.changes (word_of n)
+
+  abbrev pub loaded : At T → Seen T K → ℕ → Seen T K → Type 0
+  loaded st m n m' = (m'.0 ≡ seen (word_of n) m.0) × (m'.1 ≡ m.1) × Loads m.0.trail.met n
+      × Parted m.0.got × (m.0.parts ≡ 256 → GotAll (word_of n).claimed m.0.got)
+
+  -- a load too; where it found the word that was expected, a ticket was claimed and its slot taken
+  abbrev pub claimed_at : (K → T → Type 0) → Bool → At T → Seen T K → ℕ → Seen T K → Type 0
+  claimed_at fits drained st m n m' = Loads m.0.trail.met n
+      × (n ≢ st.first → (m'.0 ≡ seen (word_of n) m.0) × (m'.1 ≡ m.1))
+      × (n ≡ st.first → (x : T) × ((m'.0 ≡ record (seen (word_of n) m.0) { got = m.0.got ++ ticket (word_of n).claimed x drained ∷ []; holds = Some (word_of n).claimed })
+      × (m'.1 ≡ ((word_of n).claimed % st.slots, Some x) ∷ m.1) × ((k : K) → m.0.key ≡ Some k → fits k x) × AllBelow (word_of n).claimed m.0.got))
+
+  -- what a try to claim at the word expected answers, and how it leaves the seat: with the item whose place was emptied, or with another word
+  abbrev pub Claims : (K → T → Type 0) → Bool → ℕ → Seen T K → Result T ℕ → Seen T K → Type 0
+  Claims fits drained first m (Ok x) m' = (m'.0 ≡ record (seen (word_of first) m.0) { got = m.0.got ++ ticket (word_of first).claimed x drained ∷ []; holds = None })
+      × (m'.1 ≡ []) × ((k : K) → m.0.key ≡ Some k → fits k x) × AllBelow (word_of first).claimed m.0.got
+  Claims fits drained first m (Err n) m' = (n ≢ first) × Loads m.0.trail.met n × (m'.0 ≡ seen (word_of n) m.0) × (m'.1 ≡ [])
+
+  abbrev pub emptied : At T → Seen T K → ℕ → Seen T K → Type 0
+  emptied st m n m' = (m'.0 ≡ record m.0 { holds = None }) × (m'.1 ≡ [])
+
+  abbrev pub rested_at : At T → Seen T K → ℕ → Seen T K → Type 0
+  rested_at st m n m' = (m'.0 ≡ record m.0 { trail = steps (rests m.0.trail.met) }) × (m'.1 ≡ m.1)
+
+  abbrev pub calmed : At T → Seen T K → ℕ → Seen T K → Type 0
+  calmed st m n m' = m' ≡ m
+
+  -- the seat is about to hand on so many parts
+  abbrev pub asks : At T → Seen T K → ℕ → Seen T K → Type 0
+  asks st m n m' = (m'.0 ≡ record m.0 { asked = st.first }) × (m'.1 ≡ m.1)
+
+  abbrev pub tallied : At T → Seen T K → ℕ → Seen T K → Type 0
+  tallied st m n m' = (m' ≡ m) × ((t : ℕ) → times t m.0.got ≤ 1)
+
+  abbrev pub tells : At T → Seen T K → ℕ → Seen T K → Type 0
+  tells st m n m' = (m' ≡ m) × Told m.0.changes m.0.parts m.0.back m.0.got
