@@ -1,0 +1,12 @@
+//! Worked runs of the program over files and sinks in memory, with their inputs and outputs octet by
+//! octet. There are tests alone here.
+#![tactic(auto)]
+
+#[cfg(test)]
+mod captures;
+#[cfg(test)]
+mod narrow;
+#[cfg(test)]
+mod program;
+#[cfg(test)]
+mod tests;
