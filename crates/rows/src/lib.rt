@@ -1,5 +1,5 @@
 //! Worked runs of the program over files and sinks in memory, with their inputs and outputs octet by
-//! octet. There are tests alone here.
+//! octet: as tests, and two of them as theorems in `proofs/`.
 #![tactic(auto)]
 
 #[cfg(test)]
