@@ -28,9 +28,11 @@ abbrev pub IsBoard : TableId → Type 0
 IsBoard z = (z.words ≡ 3) × (z.slots ≡ 1)
 
 module _ {O E : Type 0} where
+  -- what contracts see of a caller, from its seat, its number and its count of splits
   abbrev pub known : Seat (Option (Held O E)) (View O E) → ℕ → ℕ → Known O E
   known s number splits = let p : Part E = part_of s.me.0 in record { lock = s.table_id; start = s.me.0.start; number = number; splits = splits; seen = p.seen; mine = p.mine }
 
+  -- what a seat keeps of a caller
   abbrev pub part_from : Known O E → Part E
   part_from c = record { number = c.number; splits = c.splits; seen = c.seen; mine = c.mine }
 
@@ -42,6 +44,7 @@ module _ {O E : Type 0} where
   abbrev pub IsCallerOf : Begun O → Known O E → Type 0
   IsCallerOf l c = (c.lock ≡ l.lock) × (c.start ≡ Some l.start)
 
+  -- the same caller of the same lock, whatever it has seen and made since
   abbrev pub IsSameCaller : Known O E → Known O E → Type 0
   IsSameCaller c d = (d.lock ≡ c.lock) × (d.start ≡ c.start) × (d.number ≡ c.number) × (d.splits ≡ c.splits)
 

@@ -6,6 +6,7 @@ pub record Store : Type 0 where
   pub word : ℕ
   pub value : ℕ
 
+-- the store of a value in a word
 abbrev pub a_store : ℕ → ℕ → Store
 a_store word value = record { word = word; value = value }
 

@@ -17,6 +17,7 @@ pub record Origin (F : Type 0) : Type 0 where
   pub id : TableId
   pub about : Option F
 
+-- what a token keeps of its board
 abbrev pub origin : {F : Type 0} → Named F → Origin F
 origin b = record { id = b.id; about = Some b.about }
 

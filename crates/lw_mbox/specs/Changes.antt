@@ -47,5 +47,6 @@ own_flags = Writable ∷ Ended ∷ Fault ∷ Closed ∷ Listen ∷ Idle ∷ []
 abbrev pub shows : {T : Type 0} → List (Change T) → Word → Bool
 shows cs w = eqb w.posted (posted cs) && list_all (λ f. beq (is_set f w.flags) (is_on f cs)) own_flags
 
+-- the word has the posts and the flags, REST apart, that these changes leave
 abbrev pub Shows : {T : Type 0} → List (Change T) → Word → Type 0
 Shows cs w = shows cs w ≡ true

@@ -11,6 +11,7 @@ use Rattle.lw_mbox.specs.declared.view.Steps.{Steps}
 use Rattle.lw_mbox.specs.Changes.{items, posted, is_on}
 use Rattle.lw_mbox.specs.Trail.{Trail, EachLoad, StandsAt, settings}
 
+-- what was done to a mailbox: the posts and changes of flags, oldest first, and how many tickets were claimed and how many of these fetched
 pub record History (T : Type 0) : Type 0 where
   pub changes : List (Change T)
   pub claimed : ℕ
@@ -24,9 +25,11 @@ pub record IsWord (w : Word) : Type 0 where
   pub claims : w.claimed ≤ w.posted
   pub flags : w.flags < 2 ^ 8
 
+-- CLOSED stands in the word
 abbrev pub IsClosed : Word → Type 0
 IsClosed w = is_set Closed w.flags ≡ true
 
+-- CLOSED doesn't stand in the word
 abbrev pub IsOpen : Word → Type 0
 IsOpen w = is_set Closed w.flags ≡ false
 
@@ -67,6 +70,7 @@ module _ {T : Type 0} where
   abbrev pub Parted : List (Got T) → Type 0
   Parted gs = (n : ℕ) × PartedAt n gs
 
+  -- each ticket that was got is below n
   abbrev pub AllBelow : ℕ → List (Got T) → Type 0
   AllBelow n gs = All (λ g. g.ticket < n) gs
 

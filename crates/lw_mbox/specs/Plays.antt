@@ -15,6 +15,7 @@ abbrev pub steps : Trail → Steps
 steps t = record { met = t }
 
 module _ {T : Type 0} where
+  -- a ticket that was got, with its item, and whether it was drained
   abbrev pub ticket : ℕ → T → Bool → Got T
   ticket n x drained = record { ticket = n; item = x; drained = drained }
 

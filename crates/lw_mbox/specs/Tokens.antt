@@ -82,6 +82,7 @@ module _ {T K : Type 0} where
   Gets fits drained h w t x e = (t ≡ w.claimed) × (w.claimed < w.posted) × fits x × AllBelow t h.got
       × (e ≡ record (sees (sees h w) w) { got = h.got ++ ticket t x drained ∷ [] })
 
+  -- what a fetch for a side answers, by the word that it loaded, and how it leaves the Taker
   abbrev pub Fetches : (T → Type 0) → Side → Hand T K → Fetch T → Hand T K → Type 0
   Fetches fits side h (fetch.Item t x) e = (w : Word) × (IsWord w × IsNewer h.trail w × IsOpen w × IsFor side w × Gets fits false h w t x e)
   Fetches fits side h (fetch.Closed w) e = IsWord w × IsNewer h.trail w × IsClosed w × (e ≡ sees h w)
@@ -89,6 +90,7 @@ module _ {T K : Type 0} where
   Fetches fits side h (fetch.Empty w) e = IsWord w × IsNewer h.trail w × IsOpen w × IsFor side w × (w.posted ≡ w.claimed) × (e ≡ sees h w)
   Fetches fits side h (fetch.Busy v w) e = IsWord v × IsNewer h.trail v × IsOpen v × IsFor side v × (v.claimed < v.posted) × IsWord w × IsNewer (saw h.trail v) w × (v ≢ w) × (e ≡ sees (sees h v) w)
 
+  -- what a drain answers, by the word that it loaded, and how it leaves the Taker
   abbrev pub Drains : (T → Type 0) → Hand T K → Drain T → Hand T K → Type 0
   Drains fits h (drain.Item t x) e = (w : Word) × (IsWord w × IsNewer h.trail w × IsClosed w × Gets fits true h w t x e)
   Drains fits h (drain.Done w) e = IsWord w × IsNewer h.trail w × IsClosed w × (w.posted ≡ w.claimed) × (e ≡ sees h w) × Parted h.got × (h.parts ≡ 256 → GotAll w.posted h.got)
