@@ -1,7 +1,10 @@
 #!/usr/bin/env python3
-"""Runs `lwip serial` on captures of 25,000 to 200,000 ARP requests, each from a sender of its own, and prints
-for each the seconds, the nanoseconds a frame, the ratio to the run of half as many frames, the peak memory in
-octets and its ratio to the octets of capture and transcript.
+"""Runs `lwip serial` on captures of ARP requests, each from a sender of its own, and of ICMP echo requests with 56
+and 1,472 octets of data, and prints for each the seconds, the nanoseconds a frame, the ratio to the run of half as
+many frames, the peak memory in octets and its ratio to the octets of capture and transcript.
+
+Where the environment variable LWIP_BENCH names a program that feeds a capture to real lwIP and prints the words
+`ns_min N`, the nanoseconds a frame, it is run on the same captures, and the ratio to it is printed too.
 
 usage: bench/serial/run.py [PROGRAM]      (crates/lwip/out/lwip, where none is named)
 """
@@ -14,26 +17,65 @@ import tempfile
 import time
 
 TOP = pathlib.Path(__file__).resolve().parents[2]
-COUNTS = [25_000, 50_000, 100_000, 200_000]
 TURNS = 3
 SCRIPT = b"lwip 1\nnet 10.0.0.1 255.0.0.0 10.255.255.254 020000000001\nlimits default\n"
 OWN_IP = bytes([10, 0, 0, 1])
+OWN_MAC = bytes([2, 0, 0, 0, 0, 1])
+PEER_IP = bytes([10, 0, 0, 2])
+PEER_MAC = bytes([2, 0, 0, 0, 0, 2])
 
 
-def request(number):
-    """The ARP request of a sender in 10.0.0.0/8 (RFC 826), 42 octets."""
-    sender_ip = bytes([10]) + (number + 256).to_bytes(3, "big")
-    sender_mac = bytes([2, 1]) + number.to_bytes(4, "big")
+def arp_request(sender_ip, sender_mac):
+    """An ARP request for the stack's address (RFC 826), 42 octets."""
     head = b"\xff" * 6 + sender_mac + b"\x08\x06"
     return head + b"\x00\x01\x08\x00\x06\x04\x00\x01" + sender_mac + sender_ip + bytes(6) + OWN_IP
 
 
-def write_capture(path, count):
+def arp_requests(count):
+    """Requests from as many senders in 10.0.0.0/8."""
+    for number in range(count):
+        yield arp_request(bytes([10]) + (number + 256).to_bytes(3, "big"), bytes([2, 1]) + number.to_bytes(4, "big"))
+
+
+def checksum(octets):
+    """The internet checksum (RFC 1071) of an even number of octets."""
+    total = sum(struct.unpack(f">{len(octets) // 2}H", octets))
+    while total >> 16:
+        total = (total & 0xFFFF) + (total >> 16)
+    return 0xFFFF - total
+
+
+def echo_request(octets):
+    """An ICMP echo request (RFC 792) from the peer, with so many octets of data."""
+    data = bytes(place % 251 for place in range(octets))
+    message = struct.pack(">BBHHH", 8, 0, 0, 0x1234, 1) + data
+    message = message[:2] + struct.pack(">H", checksum(message)) + message[4:]
+    head = struct.pack(">BBHHHBBH", 0x45, 0, 20 + len(message), 1, 0, 64, 1, 0) + PEER_IP + OWN_IP
+    head = head[:10] + struct.pack(">H", checksum(head)) + head[12:]
+    return OWN_MAC + PEER_MAC + b"\x08\x00" + head + message
+
+
+def echo_requests(count, octets):
+    """An ARP request of the peer, then echo requests; frames count the first too."""
+    request = echo_request(octets)
+    yield arp_request(PEER_IP, PEER_MAC)
+    for _ in range(count - 1):
+        yield request
+
+
+# what is measured: a name, how the frames are made, and how many
+KINDS = [
+    ("ARP requests", arp_requests, [25_000, 50_000, 100_000, 200_000]),
+    ("echo requests, 56 octets", lambda count: echo_requests(count, 56), [25_000, 50_000, 100_000]),
+    ("echo requests, 1,472 octets", lambda count: echo_requests(count, 1472), [2_500, 5_000, 10_000]),
+]
+
+
+def write_capture(path, frames):
     """A capture file of version 2.4, the lowest octet first."""
     with open(path, "wb") as out:
         out.write(struct.pack("<IHHiIII", 0xA1B2C3D4, 2, 4, 0, 0, 65535, 1))
-        for number in range(count):
-            frame = request(number)
+        for frame in frames:
             out.write(struct.pack("<IIII", 0, 0, len(frame), len(frame)) + frame)
 
 
@@ -59,6 +101,16 @@ def check(path, count):
         sys.exit(f"the transcript of {count} frames ends with: {last}")
 
 
+def real(folder):
+    """The nanoseconds that real lwIP takes a frame of the same capture, or None where no program for it is named."""
+    program = os.environ.get("LWIP_BENCH")
+    if not program:
+        return None
+    done = subprocess.run([program, "capture"], cwd=folder, capture_output=True, text=True, check=False)
+    words = done.stdout.split()
+    return float(words[words.index("ns_min") + 1]) if "ns_min" in words else None
+
+
 def main():
     program = pathlib.Path(sys.argv[1] if len(sys.argv) > 1 else TOP / "crates/lwip/out/lwip").resolve()
     if not os.access(program, os.X_OK):
@@ -66,20 +118,30 @@ def main():
         return
     load = " ".join(f"{x:.2f}" for x in os.getloadavg())
     print(f"{os.cpu_count()} processors, load {load}; the best of {TURNS} runs")
-    print(f"{'frames':>8} {'seconds':>9} {'ns/frame':>9} {'doubling':>9} {'peak':>12} {'peak/octets':>12}")
-    before = None
     with tempfile.TemporaryDirectory() as room:
         folder = pathlib.Path(room)
         (folder / "script").write_bytes(SCRIPT)
-        for count in COUNTS:
-            write_capture(folder / "capture", count)
-            runs = [run(program, folder) for _ in range(TURNS)]
-            check(folder / "transcript", count)
-            seconds, peak = min(s for s, _ in runs), max(p for _, p in runs)
-            octets = (folder / "capture").stat().st_size + (folder / "transcript").stat().st_size
-            ratio = f"{seconds / before:.2f}" if before else "-"
-            print(f"{count:>8} {seconds:>9.3f} {seconds / count * 1e9:>9.0f} {ratio:>9} {peak:>12} {peak / octets:>12.2f}", flush=True)
-            before = seconds
+        for name, frames, counts in KINDS:
+            measure(program, folder, name, frames, counts)
+
+
+def measure(program, folder, name, frames, counts):
+    """Prints a line for each number of frames."""
+    print(name)
+    print(f"{'frames':>8} {'seconds':>9} {'ns/frame':>9} {'doubling':>9} {'peak':>12} {'peak/octets':>12} {'real ns':>9} {'ratio':>7}")
+    before = None
+    for count in counts:
+        write_capture(folder / "capture", frames(count))
+        runs = [run(program, folder) for _ in range(TURNS)]
+        check(folder / "transcript", count)
+        seconds, peak = min(s for s, _ in runs), max(p for _, p in runs)
+        octets = (folder / "capture").stat().st_size + (folder / "transcript").stat().st_size
+        ratio = f"{seconds / before:.2f}" if before else "-"
+        each = seconds / count * 1e9
+        yardstick = real(folder)
+        beside = f"{yardstick:>9.1f} {each / yardstick:>7.1f}" if yardstick else f"{'-':>9} {'-':>7}"
+        print(f"{count:>8} {seconds:>9.3f} {each:>9.0f} {ratio:>9} {peak:>12} {peak / octets:>12.2f} {beside}", flush=True)
+        before = seconds
 
 
 main()

@@ -1,4 +1,6 @@
 use Rattle.std.specs.Prelude.{ℕ, Bool, List, [], ◌∷◌, ◌++◌, ◌==◌, ◌&&◌, not, Option, Some, None, length, max, fold, position, remove, slice_set, nat_lt, unwrap_or, if◌then◌else◌}
+use Rattle.std.specs.List.{find}
+use Rattle.std.specs.Option.{option_map}
 use Rattle.lw_base.specs.declared.addresses.Ip.{Ip}
 use Rattle.lw_base.specs.declared.addresses.Mac.{Mac}
 use Rattle.lw_base.specs.declared.heads.ArpPacket.{ArpPacket}
@@ -11,6 +13,10 @@ fresh ip mac = record { ip = ip; mac = mac; age = 0 }
 -- the place of the entry of an address, the first of them
 abbrev pub place_of : List ArpEntry → Ip → Option ℕ
 place_of table ip = position (λ e. e.ip.0 == ip.0) table
+
+-- the hardware address in the entry of an address, the first of them
+abbrev pub mac_of : List ArpEntry → Ip → Option Mac
+mac_of table ip = option_map (λ (e : ArpEntry). e.mac) (find (λ (e : ArpEntry). e.ip.0 == ip.0) table)
 
 -- the age of the oldest entry
 abbrev pub greatest_age : List ArpEntry → ℕ

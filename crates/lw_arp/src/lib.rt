@@ -3,4 +3,4 @@
 
 mod table;
 
-pub use table::{ArpEntry, ArpTable, ENTRIES, Learnt, NoMemory};
+pub use table::{ArpEntry, ArpTable, ENTRIES, Learnt, NoMemory, is_answered};

@@ -1,5 +1,5 @@
 ghost use Rattle.std.specs.Prelude.{◌≡◌, ◌≤◌, ◌<◌, ◌==◌, [], ◌∷◌, ◌++◌, position, IfOk, IfSome, length, vec_capacity};
-ghost use Rattle.lw_arp.specs.Neighbours.{is_answered, learnt, placed, place_of, fresh, with_room, oldest_place, greatest_age};
+ghost use Rattle.lw_arp.specs.Neighbours.{is_answered, learnt, mac_of, placed, place_of, fresh, with_room, oldest_place, greatest_age};
 
 use lw_base::{ArpPacket, Ip, Mac};
 pub use std::alloc::AllocError as NoMemory;
@@ -54,14 +54,19 @@ impl ArpTable {
         ensures table { self.new ≡ learnt own self.old a.now }
         ensures answer { result.answer ≡ is_answered own a.now }
     {
-        if a.sip == own {
-            return Learnt { answer: false };
+        if a.sip != own {
+            self.tell(a.sip, a.smac, a.tip == own && a.sip != Ip(0));
         }
-        let for_own = a.tip == own;
-        self.tell(a.sip, a.smac, for_own && a.sip != Ip(0));
         Learnt {
-            answer: for_own && a.op == 1,
+            answer: is_answered(a, own),
         }
+    }
+
+    /// The hardware address that an address has, where there is an entry of it.
+    pub fn mac_of(&self, ip: Ip) -> Option<Mac>
+        ensures { result ≡ mac_of self.now ip }
+    {
+        self.entries.iter().find(|e| e.ip.0 == ip.0).map(|e| e.mac)
     }
 
     fn tell(&mut self, ip: Ip, mac: Mac, makes: bool)
@@ -77,6 +82,13 @@ impl ArpTable {
             }
         }
     }
+}
+
+/// Whether a packet is to be answered by the stack with the address `own`.
+pub fn is_answered(a: &ArpPacket, own: Ip) -> bool
+    ensures { result ≡ is_answered own a.now }
+{
+    a.sip != own && a.tip == own && a.op == 1
 }
 
 /// Where the entry of an address stands.

@@ -1,3 +1,4 @@
 pub mod State
+pub mod Datagrams
 pub mod Step
 pub mod History

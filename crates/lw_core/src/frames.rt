@@ -1,56 +1,82 @@
-ghost use Rattle.std.specs.Prelude.{◌≡◌, ◌≤◌, [], vec_capacity, drop};
-ghost use Rattle.lw_core.specs.Step.{arp_in, arp_reply, is_taken};
+ghost use Rattle.std.specs.Prelude.{◌≡◌, ◌+◌, ◌≤◌, ◌<◌, ◌^◌, IfOk, length};
+ghost use Rattle.lw_core.specs.Datagrams.{datagram_frame, sent_head};
+ghost use Rattle.lw_core.specs.Step.{arp_reply};
 
-use lw_base::{ArpPacket, EthHead, Mac, Octets};
-use lw_netif::Netif;
-use lw_wire::{read_arp, read_eth, write_arp, write_eth};
+use crate::NoMemory;
+use crate::arrival::{ARP, ICMP, IPV4};
+use lw_base::{ArpPacket, EthHead, Ip, IpHead, Mac, Net, Octets};
+use lw_wire::{write_arp, write_eth, write_ip};
+use std::alloc::Global;
 
-/// The type of ARP in an Ethernet head (RFC 826).
-const ARP: u16 = 0x0806;
+/// The octets of an Ethernet head.
+const ETH_LEN: usize = 14;
 
-/// The octets of a frame with an ARP packet.
-pub const ARP_FRAME: usize = 42;
+/// The octets of an ARP packet.
+const ARP_LEN: usize = 28;
 
-/// The ARP packet that a frame brings, if it is for this stack and brings one.
-pub fn arp_packet(netif: &Netif, octets: &[u8]) -> Option<ArpPacket>
-    ensures { result ≡ arp_in netif.now octets.now }
+/// The octets of an IPv4 header without options.
+const IP_LEN: u8 = 20;
+
+/// How many octets a datagram has at most that one frame takes.
+pub const MTU: usize = 1500;
+
+/// The octets of data that such a datagram has at most.
+pub const MTU_DATA: usize = MTU - 20;
+
+/// The frame that answers an ARP request.
+pub fn arp_reply(alloc: Global, net: &Net, request: &ArpPacket) -> Result<Octets, NoMemory>
+    ensures { IfOk result (λ frame. frame ≡ arp_reply net.now request.now) }
 {
-    let Ok((head, place)) = read_eth(octets) else {
-        return None;
-    };
-    if !takes(netif, head.dst) || head.ethertype != ARP {
-        return None;
-    }
-    let (_, body) = octets.split_at(place);
-    read_arp(body).ok()
-}
-
-fn takes(netif: &Netif, dst: Mac) -> bool
-    ensures { result ≡ is_taken netif.now dst }
-{
-    dst == netif.mac() || dst == Mac::BROADCAST
-}
-
-/// Writes the answer to a request into `out`, which has room for it.
-pub fn answer(netif: &Netif, request: &ArpPacket, mut out: Vec<u8>) -> Octets
-    requires empty { out.items ≡ [] }
-    requires room { 42 ≤ vec_capacity out }
-    ensures { result ≡ arp_reply netif.now request.now }
-{
-    let mac = netif.mac();
     let head = EthHead {
         dst: request.smac,
-        src: mac,
+        src: net.mac,
         ethertype: ARP,
     };
     let reply = ArpPacket {
         op: 2,
-        smac: mac,
-        sip: netif.ip(),
+        smac: net.mac,
+        sip: net.ip,
         tmac: request.smac,
         tip: request.sip,
     };
-    write_eth(&head, &[], &mut out).unwrap();
-    write_arp(&reply, &[], &mut out).unwrap();
-    Octets::from_vec(out)
+    let mut frame = Vec::with_capacity(alloc, ETH_LEN + ARP_LEN)?;
+    write_eth(&head, &[], &mut frame)?;
+    write_arp(&reply, &[], &mut frame)?;
+    Ok(Octets::from_vec(frame))
+}
+
+/// The frame that takes a message of ICMP to a neighbour, in one datagram.
+pub fn message_frame(
+    alloc: Global,
+    net: &Net,
+    mac: Mac,
+    id: u16,
+    dst: Ip,
+    message: &[u8],
+) -> Result<Octets, NoMemory>
+    requires { length message.now ≤ 1480 }
+    ensures { IfOk result (λ frame. frame ≡ datagram_frame net.now mac (sent_head net.now id 1 dst (length message.now)) message.now) }
+{
+    let eth = EthHead {
+        dst: mac,
+        src: net.mac,
+        ethertype: IPV4,
+    };
+    let head = IpHead {
+        head_len: IP_LEN,
+        tos: 0,
+        total: u16::from(IP_LEN) + message.len() as u16,
+        id,
+        df: false,
+        mf: false,
+        offset: 0,
+        ttl: 255,
+        proto: ICMP,
+        src: net.ip,
+        dst,
+    };
+    let mut frame = Vec::with_capacity(alloc, ETH_LEN + usize::from(head.total))?;
+    write_eth(&eth, &[], &mut frame)?;
+    write_ip(&head, message, &mut frame)?;
+    Ok(Octets::from_vec(frame))
 }

@@ -3,6 +3,7 @@ use Rattle.std.specs.Prelude.{ℕ, List, take, drop}
 use Rattle.byteorder.specs.Endian.{big_number}
 use Rattle.lw_base.specs.declared.addresses.Mac.{Mac}
 use Rattle.lw_base.specs.declared.addresses.Ip.{Ip}
+use Rattle.lw_base.specs.declared.addresses.Port.{Port}
 
 -- the n octets from a place
 abbrev pub part_at : ℕ → ℕ → List ℕ → List ℕ
@@ -31,3 +32,7 @@ mac_at place octets = record { 0 = part_at place 6 octets }
 -- the protocol address in four octets
 abbrev pub ip_at : ℕ → List ℕ → Ip
 ip_at place octets = record { 0 = u32_at place octets }
+
+-- the port in two octets
+abbrev pub port_at : ℕ → List ℕ → Port
+port_at place octets = record { 0 = u16_at place octets }

@@ -2,7 +2,7 @@ ghost use Rattle.std.specs.Prelude.{◌≡◌, ◌+◌, ◌≤◌, ◌++◌, len
 ghost use Rattle.std.specs.Vec.{vec_capacity, vec_len};
 ghost use Rattle.lw_wire.specs.Arp.{arp_fields, arp_of, arp_spelling, is_ethernet_ipv4, IsArpOperation, SpellsArp};
 
-use crate::fields::{put, put_u16, put_u32, read_ip, read_mac, read_u8, read_u16};
+use crate::fields::{put, put_u16, put_u32, read_address, read_mac, read_u8, read_u16};
 use crate::{NoMemory, WireFault};
 use lw_base::ArpPacket;
 
@@ -60,9 +60,9 @@ fn arp_fields(octets: &[u8]) -> ArpPacket
     ArpPacket {
         op: read_u16(octets, 6),
         smac: read_mac(octets, 8),
-        sip: read_ip(octets, 14),
+        sip: read_address(octets, 14),
         tmac: read_mac(octets, 18),
-        tip: read_ip(octets, 24),
+        tip: read_address(octets, 24),
     }
 }
 

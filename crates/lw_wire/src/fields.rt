@@ -1,10 +1,11 @@
-ghost use Rattle.std.specs.Prelude.{◌≡◌, ◌+◌, ◌≤◌, ◌++◌, length};
+ghost use Rattle.std.specs.Prelude.{◌≡◌, ◌+◌, ◌≤◌, ◌++◌, length, OnErr, OnOk, IsOk};
 ghost use Rattle.std.specs.Vec.{vec_capacity, vec_len};
 ghost use Rattle.byteorder.specs.Endian.{big_bytes};
-ghost use Rattle.lw_wire.specs.Fields.{ip_at, mac_at, u8_at, u16_at, u32_at};
+ghost use Rattle.lw_wire.specs.Fields.{ip_at, mac_at, port_at, u8_at, u16_at, u32_at};
 
+use crate::NoMemory;
 use byteorder::{BigEndian, ByteOrder};
-use lw_base::{Ip, Mac};
+use lw_base::{Ip, Mac, Port};
 
 /// The octet at a place.
 pub fn read_u8(octets: &[u8], place: usize) -> u8
@@ -33,7 +34,7 @@ pub fn read_u32(octets: &[u8], place: usize) -> u32
 }
 
 /// The protocol address in the four octets at a place.
-pub fn read_ip(octets: &[u8], place: usize) -> Ip
+pub fn read_address(octets: &[u8], place: usize) -> Ip
     requires { place + 4 ≤ length octets.now }
     ensures { result ≡ ip_at place octets.now }
 {
@@ -78,4 +79,26 @@ pub fn put_u32(number: u32, out: &mut Vec<u8>)
     ensures room { vec_capacity out.old ≤ vec_capacity out.new }
 {
     put(&number.to_be_bytes(), out);
+}
+
+/// The port in the two octets at a place.
+pub fn read_port(octets: &[u8], place: usize) -> Port
+    requires { place + 2 ≤ length octets.now }
+    ensures { result ≡ port_at place octets.now }
+{
+    Port(read_u16(octets, place))
+}
+
+/// Appends a head and the data behind it; what they take is reserved before.
+pub fn append(head: &[u8], body: &[u8], out: &mut Vec<u8>) -> Result<(), NoMemory>
+    ensures ok { OnOk result (out.new.items ≡ out.old.items ++ (head.now ++ body.now)) }
+    ensures err { OnErr result (out.new.items ≡ out.old.items) }
+    ensures room { vec_len out.old + (length head.now + length body.now) ≤ vec_capacity out.old → IsOk result }
+    ensures len { OnOk result (vec_len out.new ≡ vec_len out.old + (length head.now + length body.now)) }
+    ensures capacity { vec_capacity out.old ≤ vec_capacity out.new }
+{
+    out.reserve(head.len() + body.len())?;
+    put(head, out);
+    put(body, out);
+    Ok(())
 }

@@ -2,13 +2,24 @@
 #![tactic(auto)]
 
 mod arp;
+mod checksum;
+#[cfg(test)]
+mod checksum_tests;
 mod eth;
 mod fault;
 mod fields;
+mod icmp;
+mod ip;
+mod sums;
 #[cfg(test)]
 mod tests;
+mod udp;
 
 pub use arp::{read_arp, write_arp};
+pub use checksum::sum16;
 pub use eth::{read_eth, write_eth};
 pub use fault::WireFault;
+pub use icmp::{read_icmp, write_icmp};
+pub use ip::{read_ip, write_ip};
 pub use std::alloc::AllocError as NoMemory;
+pub use udp::{read_udp, write_udp};

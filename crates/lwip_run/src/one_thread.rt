@@ -1,4 +1,4 @@
-ghost use Rattle.std.specs.Prelude.{◌≡◌, IfOk};
+ghost use Rattle.std.specs.Prelude.{◌≡◌, [], IfOk};
 ghost use Rattle.lw_rules.specs.Schedule.{serial_transcript};
 
 use crate::lines::{all_calls, body};
@@ -15,7 +15,7 @@ use std::alloc::{AllocError, Global};
 pub fn serial(alloc: Global, script: &Script, frames: FrameList) -> Result<Transcript, AllocError>
     ensures { IfOk result (λ t. t ≡ serial_transcript script.now frames) }
 {
-    let core = Core::new(alloc, netif(script), script.profile.limits())?;
+    let core = Core::new(alloc, netif(alloc, script), script.profile.limits())?;
     let mut api = PlainApi::new(alloc, core, frames);
     let mut progress = run_serial(alloc, &mut api, script)?;
     let done = progress.remove(0).done.into_vec();
@@ -28,9 +28,10 @@ pub fn serial(alloc: Global, script: &Script, frames: FrameList) -> Result<Trans
     })
 }
 
-fn netif(script: &Script) -> Netif
-    ensures { result ≡ script.now.net }
+fn netif(alloc: Global, script: &Script) -> Netif
+    ensures net { result.net ≡ script.now.net }
+    ensures sent { result.sent ≡ [] }
 {
     let net = script.net;
-    Netif::new(net.ip, net.mask, net.gateway, net.mac)
+    Netif::new(alloc, net.ip, net.mask, net.gateway, net.mac)
 }

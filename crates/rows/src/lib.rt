@@ -5,6 +5,12 @@
 #[cfg(test)]
 mod captures;
 #[cfg(test)]
+mod echo_cases;
+#[cfg(test)]
+mod echoes;
+#[cfg(test)]
+mod exchange;
+#[cfg(test)]
 mod narrow;
 #[cfg(test)]
 mod program;

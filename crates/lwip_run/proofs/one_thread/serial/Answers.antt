@@ -11,7 +11,7 @@ pub returns : goal.returns
 returns c =
     let core : c.in_ok-core.core ≡ opening c.args.script.now.net (limits_of c.args.script.now.profile) =
     c.in_ok-core.ensures
-    ∙ ap (λ (net : Net). opening net c.limits.result) c.netif.ensures
+    ∙ ap (λ (net : Net). opening net c.limits.result) c.netif.ensures.net
     ∙ ap (λ (limits : Limits). opening c.args.script.now.net limits) c.limits.ensures in
     let begins : c.new-api.result ≡ beginning c.args.script.now c.args.frames =
     c.new-api.ensures

@@ -1,0 +1,10 @@
+//! The fragments of an IPv4 packet (RFC 791, 2.3 and 3.2).
+#![tactic(auto)]
+
+mod fault;
+mod pieces;
+#[cfg(test)]
+mod tests;
+
+pub use fault::SplitFault;
+pub use pieces::split;

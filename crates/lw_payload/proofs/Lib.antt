@@ -1,0 +1,7 @@
+pub mod RowLaws
+pub mod PlainLaws
+pub mod HomeLaws
+pub mod ListLaws
+pub mod CountLaws
+pub mod FakeLaws
+pub mod PoolLaws

@@ -1,0 +1,6 @@
+use Rattle.std.proofs.Common.{[], take}
+use Rattle.lw_payload.specs.Fake.{Moves}
+use Rattle.lw_payload.proofs.fake.counts.add_all.Given as goal
+
+abbrev pub invariant-loop-place : goal.invariant-loop-place
+invariant-loop-place l = Moves l.fn.counts l.counts [] (take l.place-index l.places)

@@ -1,0 +1,17 @@
+use Rattle.std.proofs.Common.{min, vec_capacity, ◌≡◌, ◌-◌, length, take, length-take, arith}
+use Rattle.std.specs.Vec.{with_items}
+use Rattle.std.proofs.lemmas.List.{with_items_is}
+use Rattle.lw_payload.proofs.PoolLaws.{of_owned, pool_cut}
+use Rattle.lw_payload.proofs.fake.pool.SlottedPayload.cut_back.Goals as goal
+
+pub give_up-requires-clause-owned : goal.give_up-requires-clause-owned
+give_up-requires-clause-owned c = of_owned c.args.home.now c.args.self.now _ c.deref_mut.ensures.value c.requires.of_home
+
+pub returns : goal.returns
+returns c =
+    let all : c.len.result ≡ length c.args.self.now.octets.items = omega arith in
+    pool_cut c.args.home.now c.args.self.now ((with_items c.args.home.now.counts c.give_up.new.counts).items) c.give_up.new.counts c.truncate.new.self.items
+    (take (length c.args.self.now.octets.items - c.args.n) c.args.self.now.octets.items) c.give_up.new.places.items (c.len.result - c.args.n) (min (vec_capacity c.truncate.new.self - length c.truncate.new.self.items) (vec_capacity c.give_up.new.places - length c.give_up.new.places.items))
+    c.requires.of_home (with_items_is c.args.home.now.counts c.give_up.new.counts (omega arith))
+    (rw c.deref_mut.ensures.value at c.give_up.ensures.moves) (rw all at c.truncate.ensures.items) c.give_up.ensures.places
+    (simp length-take (omega arith)) (simp length-take (omega arith)) (omega arith)

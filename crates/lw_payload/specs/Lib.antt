@@ -1,0 +1,5 @@
+pub mod Views
+pub mod Calls
+pub mod Lists
+pub mod Fake
+pub mod FakeViews

@@ -1,0 +1,3 @@
+//! Payloads of both kinds.
+mod octet_lists;
+mod pools;

@@ -1,0 +1,5 @@
+mod Sums
+mod Holdings
+pub mod Keeps
+pub mod Steps
+pub mod Cuts

@@ -1,0 +1,41 @@
+use crate::echo_cases::ECHO_CASES;
+use crate::exchange::Exchange;
+use std::alloc::Global;
+use std::process::Abort;
+use std::test::Fail;
+
+// Runs an exchange, and compares all that the program wrote.
+fn meets(rt: &impl Abort, exchange: &Exchange) -> Result<(), Fail> {
+    let ran = exchange.run()?;
+    let wanted = exchange.transcript()?;
+    assert_eq!(rt; ran.status, 0, "{}", exchange.what);
+    assert_eq!(rt; ran.out.octets(), wanted.as_bytes(), "{}", exchange.what);
+    assert_eq!(rt; ran.err.octets(), b"".as_slice());
+    Ok(())
+}
+
+// Runs all exchanges of a table, and answers how many there are.
+fn each(rt: &impl Abort, alloc: Global, table: &str) -> Result<u32, Fail> {
+    let mut count = 0u32;
+    let mut exchange = Exchange::new(alloc, "")?;
+    for line in table.lines() {
+        match line.strip_prefix("case ") {
+            Some(what) => {
+                if count > 0 {
+                    meets(rt, &exchange)?;
+                }
+                exchange = Exchange::new(alloc, what)?;
+                count = count.saturating_add(1);
+            }
+            None => exchange.line(line)?,
+        }
+    }
+    meets(rt, &exchange)?;
+    Ok(count)
+}
+
+#[test]
+fn echo_requests(rt: HostRuntime) -> Result<(), Fail> {
+    assert_eq!(rt; each(&rt, rt.alloc(), ECHO_CASES)?, 48);
+    Ok(())
+}
