@@ -1,6 +1,10 @@
-ghost use Rattle.std.specs.Prelude.{◌≡◌, ◌≤◌, ◌<◌, ◌==◌, [], ◌∷◌, ◌++◌, position, IfOk, IfSome, length, vec_capacity};
-ghost use Rattle.lw_arp.specs.Neighbours.{is_answered, learnt, mac_of, placed, place_of, fresh, with_room, oldest_place, greatest_age};
+ghost use Rattle.std.specs.Prelude.{◌≡◌, ◌≤◌, ◌<◌, ◌+◌, ◌++◌, [], ◌∷◌, IfOk, option_to_list, length, vec_capacity, option_copied};
+ghost use Rattle.lw_arp.specs.Neighbours.{mac_of, waiting, state_of, entry_of, IsTable, given_up, looked_up, next_by, held, told, given_back, WeighAlike, changed, lesson, learnt, released, displaced, is_answered, aged, asked_again, expired, packets};
 
+use crate::entries::{Lesson, pending, stable, state_by};
+use crate::places::{add, entry_of, place_of, take_packet};
+use crate::ticks::{put, tick};
+use crate::{ArpEntry, EntryState, Learnt, Next};
 use lw_base::{ArpPacket, Ip, Mac};
 pub use std::alloc::AllocError as NoMemory;
 use std::alloc::Global;
@@ -9,39 +13,27 @@ use std::marker::Model;
 /// How many entries a table has at most.
 pub const ENTRIES: usize = 10;
 
-/// What is known of one address, and for how many ticks.
-#[derive(Clone, Copy, Debug, PartialEq, Eq)]
-pub struct ArpEntry {
-    pub ip: Ip,
-    pub mac: Mac,
-    pub age: u32,
-}
-
-/// What came of a packet: whether it is to be answered.
-#[derive(Clone, Copy, Debug, PartialEq, Eq)]
-pub struct Learnt {
-    pub answer: bool,
-}
-
-/// The table. Contracts see it as the list of its entries, in the order of their making.
+/// The table. Contracts see it as the list of its entries, in the order of their making. Its memory is
+/// taken by `new` alone.
 #[derive(Drop)]
-pub struct ArpTable {
-    entries: Vec<ArpEntry>,
+pub struct ArpTable<P> {
+    entries: Vec<ArpEntry<P>>,
 }
 
-impl Model for ArpTable {
-    ghost use Rattle.std.specs.Prelude.{◌≤◌, List, length, vec_capacity};
-    ghost use Rattle.lw_arp.specs.declared.table.ArpEntry.{ArpEntry as Entry};
+impl<P> Model for ArpTable<P> {
+    ghost use Rattle.std.specs.Prelude.{◌≤◌, List, vec_capacity};
+    ghost use Rattle.lw_arp.specs.declared.entries.ArpEntry.{ArpEntry as Entry};
+    ghost use Rattle.lw_arp.specs.Neighbours.{IsTable};
 
-    ghost Value = { List Entry };
+    ghost Value = { List (Entry P) };
 
     ghost view = { λ t. t.entries.items };
 
-    ghost invariant = { λ t. (length t.entries.items ≤ 10) × (10 ≤ vec_capacity t.entries) };
+    ghost invariant = { λ t. IsTable t.entries.items × (10 ≤ vec_capacity t.entries) };
 }
 
-impl ArpTable {
-    pub fn new(alloc: Global) -> Result<ArpTable, NoMemory>
+impl<P> ArpTable<P> {
+    pub fn new(alloc: Global) -> Result<ArpTable<P>, NoMemory>
         ensures { IfOk result (λ t. t ≡ []) }
     {
         Ok(ArpTable {
@@ -49,38 +41,157 @@ impl ArpTable {
         })
     }
 
-    /// Takes a packet in; `own` is the stack's address.
-    pub fn input(&mut self, a: &ArpPacket, own: Ip) -> Learnt
-        ensures table { self.new ≡ learnt own self.old a.now }
-        ensures answer { result.answer ≡ is_answered own a.now }
+    /// The entries, in the order of their making.
+    pub fn entries(&self) -> &[ArpEntry<P>]
+        ensures items { result.now ≡ self.now }
+        ensures table { IsTable self.now }
     {
-        if a.sip != own {
-            self.tell(a.sip, a.smac, a.tip == own && a.sip != Ip(0));
-        }
-        Learnt {
-            answer: is_answered(a, own),
-        }
+        &self.entries
     }
 
-    /// The hardware address that an address has, where there is an entry of it.
+    /// The hardware address of an address that has a stable entry.
     pub fn mac_of(&self, ip: Ip) -> Option<Mac>
         ensures { result ≡ mac_of self.now ip }
     {
-        self.entries.iter().find(|e| e.ip.0 == ip.0).map(|e| e.mac)
+        entry_of(&self.entries, ip)?.mac
     }
 
-    fn tell(&mut self, ip: Ip, mac: Mac, makes: bool)
-        ensures { self.new ≡ placed (place_of self.old ip) self.old (fresh ip mac) makes }
+    /// The packet that waits for an address.
+    pub fn waiting(&self, ip: Ip) -> Option<&P>
+        ensures { option_copied result ≡ waiting self.now ip }
     {
-        let entry = ArpEntry { ip, mac, age: 0 };
-        match place(&self.entries, ip) {
-            Some(place) => self.entries[place] = entry,
-            None => {
-                if makes {
-                    add(&mut self.entries, entry);
-                }
-            }
+        entry_of(&self.entries, ip)?.packet.as_ref()
+    }
+
+    /// The packet that an ARP packet would let out, as `input` does in `send`.
+    pub fn released(&self, a: &ArpPacket, own: Ip) -> Option<&P>
+        ensures { option_copied result ≡ released own self.now a.now }
+    {
+        match self.lesson(a, own) {
+            Lesson::Update => self.waiting(a.sip),
+            Lesson::Nothing | Lesson::Make => None,
         }
+    }
+
+    /// What the table has of an address. A lookup answers Known where that is Stable, Wait where it is
+    /// Pending, and Ask where it is Empty.
+    pub fn state_of(&self, ip: Ip) -> EntryState
+        ensures { result ≡ state_of self.now ip }
+    {
+        match entry_of(&self.entries, ip) {
+            Some(entry) => state_by(entry.mac),
+            None => EntryState::Empty,
+        }
+    }
+
+    /// Looks the hardware address of an address up, for a packet that is to be sent there now.
+    pub fn lookup(&mut self, ip: Ip) -> Next<P>
+        ensures table { self.new ≡ looked_up self.old ip }
+        ensures answer { result ≡ next_by (state_of self.old ip) (given_up self.old) }
+        // No packet is lost: each that waited still waits, or is given back.
+        ensures kept { WeighAlike (packets self.old) (packets self.new ++ option_to_list (given_back result)) }
+    {
+        match self.state_of(ip) {
+            EntryState::Stable(mac) => Next::Known(mac),
+            EntryState::Pending => Next::Wait,
+            EntryState::Empty => Next::Ask(add(&mut self.entries, pending(ip))),
+        }
+    }
+
+    /// Lets a packet wait for an address, and gives the one back that waited before.
+    pub fn hold(&mut self, ip: Ip, packet: P) -> Option<P>
+        requires { state_of self.old ip ≡ EntryState.Pending }
+        ensures table { self.new ≡ held self.old ip packet }
+        ensures replaced { result ≡ waiting self.old ip }
+        ensures kept { WeighAlike (packets self.old ++ packet ∷ []) (packets self.new ++ option_to_list result) }
+    {
+        let Some(place) = place_of(&self.entries, ip) else {
+            unreachable!()
+        };
+        self.entries[place].packet.replace(packet)
+    }
+
+    /// Takes an ARP packet in; `own` is the stack's address.
+    pub fn input(&mut self, a: &ArpPacket, own: Ip) -> Learnt<P>
+        ensures table { self.new ≡ learnt own self.old a.now }
+        ensures answer { result.answer ≡ is_answered own a.now }
+        ensures send { result.send ≡ released own self.old a.now }
+        ensures gone { result.gone ≡ displaced own self.old a.now }
+        ensures kept { WeighAlike (packets self.old)
+            (packets self.new ++ option_to_list result.send ++ option_to_list result.gone) }
+    {
+        let answer = is_answered(a, own);
+        match self.lesson(a, own) {
+            Lesson::Nothing => Learnt {
+                answer,
+                send: None,
+                gone: None,
+            },
+            Lesson::Update => Learnt {
+                answer,
+                send: self.update(a.sip, a.smac),
+                gone: None,
+            },
+            Lesson::Make => Learnt {
+                answer,
+                send: None,
+                gone: add(&mut self.entries, stable(a.sip, a.smac)),
+            },
+        }
+    }
+
+    /// Lets a tick pass. Appends the addresses to ask for again and the packets of the entries that are
+    /// removed.
+    pub fn age(&mut self, asks: &mut Vec<Ip>, gone: &mut Vec<P>)
+        requires asks_room { length asks.old.items + 10 ≤ vec_capacity asks.old }
+        requires gone_room { length gone.old.items + 10 ≤ vec_capacity gone.old }
+        ensures table { self.new ≡ aged self.old }
+        ensures asks { asks.new.items ≡ asks.old.items ++ asked_again self.old }
+        ensures gone { gone.new.items ≡ gone.old.items ++ expired self.old }
+        ensures kept { WeighAlike (packets self.old ++ gone.old.items) (packets self.new ++ gone.new.items) }
+        ensures asks_room { vec_capacity asks.old ≤ vec_capacity asks.new }
+        ensures gone_room { vec_capacity gone.old ≤ vec_capacity gone.new }
+    {
+        tick(&mut self.entries, asks, gone);
+    }
+
+    /// Gives the table up, and appends all packets that wait.
+    pub fn finish(self, gone: &mut Vec<P>)
+        requires { length gone.old.items + 10 ≤ vec_capacity gone.old }
+        ensures packets { gone.new.items ≡ gone.old.items ++ packets self }
+        ensures room { vec_capacity gone.old ≤ vec_capacity gone.new }
+    {
+        let ArpTable { mut entries } = self;
+        while !entries.is_empty() {
+            put(take_packet(&mut entries, 0), gone);
+        }
+        entries.destroy_empty();
+    }
+
+    fn lesson(&self, a: &ArpPacket, own: Ip) -> Lesson
+        ensures { result ≡ lesson own self.now a.now }
+    {
+        if a.sip.0 == own.0 {
+            Lesson::Nothing
+        } else if entry_of(&self.entries, a.sip).is_some() {
+            Lesson::Update
+        } else if a.tip.0 == own.0 && a.sip.0 != 0 {
+            Lesson::Make
+        } else {
+            Lesson::Nothing
+        }
+    }
+
+    /// Tells the entry of an address its hardware address, and gives the packet that waited there.
+    fn update(&mut self, ip: Ip, mac: Mac) -> Option<P>
+        ensures table { self.new ≡ changed self.old ip (told mac) }
+        ensures send { result ≡ waiting self.old ip }
+    {
+        let place = place_of(&self.entries, ip)?;
+        let entry = &mut self.entries[place];
+        entry.mac = Some(mac);
+        entry.age = 0;
+        entry.packet.take()
     }
 }
 
@@ -89,50 +200,4 @@ pub fn is_answered(a: &ArpPacket, own: Ip) -> bool
     ensures { result ≡ is_answered own a.now }
 {
     a.sip != own && a.tip == own && a.op == 1
-}
-
-/// Where the entry of an address stands.
-fn place(entries: &[ArpEntry], ip: Ip) -> Option<usize>
-    ensures value { result ≡ place_of entries.now ip }
-    ensures within { IfSome result (λ i. i < length entries.now) }
-{
-    entries.iter().position(|e| e.ip.0 == ip.0)
-}
-
-/// Where the oldest entry stands, the first of them.
-fn oldest(entries: &[ArpEntry]) -> usize
-    requires { 0 < length entries.now }
-    ensures value { result ≡ oldest_place entries.now }
-    ensures within { result < length entries.now }
-{
-    place_aged(entries, greatest(entries)).unwrap_or(0)
-}
-
-/// Where the first entry of an age stands.
-fn place_aged(entries: &[ArpEntry], age: u32) -> Option<usize>
-    ensures value { result ≡ position (λ e. e.age == age) entries.now }
-    ensures within { IfSome result (λ i. i < length entries.now) }
-{
-    entries.iter().position(|e| e.age == age)
-}
-
-/// The greatest age.
-fn greatest(entries: &[ArpEntry]) -> u32
-    ensures { result ≡ greatest_age entries.now }
-{
-    entries.iter().fold(0, |most, e| most.max(e.age))
-}
-
-/// Adds an entry at the end of a table, which gives up its oldest one where it is full.
-fn add(entries: &mut Vec<ArpEntry>, entry: ArpEntry)
-    requires few { length entries.old.items ≤ 10 }
-    requires room { 10 ≤ vec_capacity entries.old }
-    ensures added { entries.new.items ≡ with_room entries.old.items ++ entry ∷ [] }
-    ensures few { length entries.new.items ≤ 10 }
-    ensures room { 10 ≤ vec_capacity entries.new }
-{
-    if entries.len() >= ENTRIES {
-        entries.remove(oldest(entries));
-    }
-    entries.push(entry).unwrap();
 }

@@ -1,11 +1,10 @@
--- Laws of the frames that the serial step sends: they are short, since hardware addresses have six octets.
-use Rattle.std.proofs.Common.{ℕ, suc, ◌≡◌, ◌≤◌, ◌+◌, Bool, true, false, List, [], ◌∷◌, length, All, Option, Some, None, Result, Ok, Err, take, drop, refl, arith, nat_lt, nat_le, if◌then◌else◌, subst, ◌==◌, ◌&&◌, not, remove}
-use Rattle.std.specs.Prelude.{slice_range}
+-- Laws of the frames that the serial step sends: they are short, since hardware addresses have six octets and packets fit
+-- one frame.
+use Rattle.std.proofs.Common.{ℕ, zero, suc, ◌≡◌, ◌≤◌, ◌-◌, Bool, true, false, List, [], ◌∷◌, length, All, Option, Some, None, Result, Ok, Err, take, drop, map, refl, arith, nat_lt, if◌then◌else◌, subst, ◌==◌, ◌&&◌, is_some, replicate, slice_get, slice_range, option_and_then}
 use Rattle.std.specs.List.{find}
-use Rattle.std.specs.Option.{option_map}
-use Rattle.std.proofs.lemmas.Bool.{leb-true}
+use Rattle.std.specs.Option.{option_map, option_map_or}
 use Rattle.std.proofs.lemmas.List.{length-append, length-take}
-use Rattle.std.proofs.lemmas.List.Elements.{All-nil, All-cons, All-append, All-set, All-take, All-drop, All-head, All-tail}
+use Rattle.std.proofs.lemmas.List.Elements.{All-nil, All-cons, All-append, All-take, All-drop, All-head, All-tail}
 use Rattle.lw_base.specs.declared.addresses.Ip.{Ip}
 use Rattle.lw_base.specs.declared.addresses.Mac.{Mac}
 use Rattle.lw_base.specs.declared.addresses.Net.{Net}
@@ -16,9 +15,14 @@ use Rattle.lw_base.specs.declared.heads.IpHead.{IpHead}
 use Rattle.lw_base.specs.declared.limits.Limits.{Limits}
 use Rattle.lw_netif.specs.Interface.{frames_left}
 use Rattle.lw_netif.specs.Route.{route_of}
-use Rattle.lw_arp.specs.declared.table.ArpEntry.{ArpEntry}
-use Rattle.lw_arp.specs.Neighbours.{fresh, is_answered, learnt, mac_of, oldest_place, place_of, placed, with_room}
-use Rattle.lw_icmp.specs.Messages.{echo_reply}
+use Rattle.lw_arp.specs.declared.entries.ArpEntry.{ArpEntry}
+use Rattle.lw_arp.specs.declared.entries.EntryState.{EntryState}
+use Rattle.lw_arp.specs.declared.entries.EntryState.TheVariants.{Stable, Pending, Empty}
+use Rattle.lw_arp.specs.declared.entries.Lesson.{Lesson}
+use Rattle.lw_arp.specs.declared.entries.Lesson.TheVariants.{Nothing as NoLesson, Update, Make}
+use Rattle.lw_arp.specs.Neighbours.{added, changed, entry_of, is_answered, is_of, lesson, looked_up, pending, place_to_free, released, released_by, stable, state_by, state_of, taught, told, with_room, without}
+use Rattle.lw_frag.specs.Pieces.{Piece, pieces_of}
+use Rattle.lw_frag.proofs.PiecesLaws.{IsPieceOf, pieces-each}
 use Rattle.lw_wire.specs.declared.fault.WireFault.{WireFault}
 use Rattle.lw_wire.specs.declared.fault.WireFault.TheVariants.{Short, BadField}
 use Rattle.lw_wire.specs.Eth.{eth_of}
@@ -27,31 +31,49 @@ use Rattle.lw_wire.specs.Fields.{u16_at}
 use Rattle.lw_wire.specs.Ip.{ip_of}
 use Rattle.lw_wire.proofs.IpLaws.{length-ip_spelling}
 use Rattle.lw_core.specs.declared.arrival.Arrival.{Arrival}
-use Rattle.lw_core.specs.declared.arrival.Arrival.TheVariants.{Arp, Echo, Nothing}
+use Rattle.lw_core.specs.declared.arrival.Arrival.TheVariants.{Arp, Answered, Nothing}
 use Rattle.lw_core.specs.declared.event.Event.{Event}
 use Rattle.lw_core.specs.declared.event.Event.TheVariants.{Frame, Stop}
-use Rattle.lw_core.specs.Datagrams.{datagram_frame, is_own, sent_head}
+use Rattle.lw_core.specs.declared.outgoing.Outgoing.{Outgoing}
+use Rattle.lw_core.specs.Arrivals.{answered, answering, arp_brings, arrival_of, data_brings, datagram_brings, frame_brings, is_taken}
+use Rattle.lw_core.specs.Datagrams.{is_own, mtu, packet, packet_frame, packets, sent_head}
 use Rattle.lw_core.specs.State.{State, opening}
-use Rattle.lw_core.specs.Step.{answers, arp_brings, arp_reply, arrival_of, data_brings, datagram_brings, echo_brings, frame_brings, is_taken, message_frames, on_arrival, routed_frames, step}
+use Rattle.lw_core.specs.Step.{arp_frame, arp_reply, arp_request, last_waits, on_arrival, outgoing, released_frames, step, to_destination, to_hop, waiting_in}
 
 -- as many octets as a frame may have
 abbrev pub IsShort : List ℕ → Type 0
 IsShort octets = length octets ≤ 65535
 
+-- a packet fits one frame
+abbrev pub IsPacket : List ℕ → Type 0
+IsPacket octets = length octets ≤ 1500
+
+-- P of what there is, if there is anything
+abbrev Whole : {A : Type 0} → (A → Type 0) → Option A → Type 0
+Whole P (Some x) = P x
+Whole P None = Unit {0}
+
 -- a hardware address has six octets at most
-abbrev pub HasMac : ArpEntry → Type 0
-HasMac e = length e.mac.0 ≤ 6
+abbrev pub IsSix : Mac → Type 0
+IsSix mac = length mac.0 ≤ 6
 
--- the own hardware address and those of the neighbours have six octets at most
-pub record HasMacs (s : State) : Type 0 where
-  pub own : length s.net.mac.0 ≤ 6
-  pub others : All HasMac s.neighbours
+-- the hardware address of an entry has six octets at most, and the packet that waits fits one frame
+pub record IsSound (e : ArpEntry (List ℕ)) : Type 0 where
+  pub mac : Whole IsSix e.mac
+  pub packet : Whole IsPacket e.packet
 
--- so it is with the sender of a packet that arrived
+-- the own hardware address has six octets at most, and each entry is sound
+pub record HasSound (s : State) : Type 0 where
+  pub own : IsSix s.net.mac
+  pub others : All IsSound s.neighbours
+
+-- the sender of a packet that arrived has six octets at most
 abbrev IsSmall : Arrival → Type 0
-IsSmall (Arp p) = length p.smac.0 ≤ 6
-IsSmall (Echo src message) = Unit {0}
+IsSmall (Arp p) = IsSix p.smac
+IsSmall (Answered src message) = Unit {0}
 IsSmall Nothing = Unit {0}
+
+-- What arrives
 
 -- what a choice of two faults and a packet gave
 picked : (b c : Bool) (x p : ArpPacket) → (if b then Err Short else (if c then Ok x else Err BadField)) ≡ Ok p → x ≡ p
@@ -60,37 +82,38 @@ picked false true x p h = cc
 picked false false x p h = cc
 
 -- a sender that was read has six octets at most
-sender_six : (octets : List ℕ) (p : ArpPacket) → arp_of octets ≡ Ok p → length p.smac.0 ≤ 6
+sender_six : (octets : List ℕ) (p : ArpPacket) → arp_of octets ≡ Ok p → IsSix p.smac
 sender_six octets p h =
     let is = picked (nat_lt (length octets) 28) (is_ethernet_ipv4 octets && is_arp_operation (u16_at 6 octets)) (arp_fields octets) p h in
     subst (λ (q : ArpPacket). length q.smac.0 ≤ 6) is (rw (length-take 6 (drop 8 octets)) (omega arith))
 
 -- a packet that was read is small
-arp_small : (r : Result ArpPacket WireFault) → ((p : ArpPacket) → r ≡ Ok p → length p.smac.0 ≤ 6) → IsSmall (arp_brings r)
+arp_small : (r : Result ArpPacket WireFault) → ((p : ArpPacket) → r ≡ Ok p → IsSix p.smac) → IsSmall (arp_brings r)
 arp_small (Ok p) sender = sender p refl
 arp_small (Err fault) sender = tt
 
--- what an echo request brings is small
-echo_small : (src : Ip) (message : Option (List ℕ)) → IsSmall (echo_brings src message)
-echo_small src (Some message) = tt
-echo_small src None = tt
+-- what is answered is small
+answered_small : (src : Ip) (message : Option (List ℕ)) → IsSmall (answered src message)
+answered_small src (Some message) = tt
+answered_small src None = tt
 
 -- what a datagram brings is small
-datagram_small : (net : Net) (body : List ℕ) (r : Result (IpHead × ℕ) WireFault) → IsSmall (datagram_brings net body r)
-datagram_small net body (Ok r) =
-    elim (is_own net 1 r.0) as (λ b. IsSmall (if b then echo_brings r.0.src (echo_reply (slice_range body r.1 r.0.total)) else Nothing)) [
-      | true ↦ echo_small r.0.src (echo_reply (slice_range body r.1 r.0.total))
+datagram_small : (net : Net) (octets : List ℕ) (r : Result (IpHead × ℕ) WireFault) → IsSmall (datagram_brings net octets r)
+datagram_small net octets (Ok r) =
+    let message = answering r.0 (take r.1 octets) (slice_range octets r.1 r.0.total) in
+    elim (is_own net r.0) as (λ b. IsSmall (if b then answered r.0.src message else Nothing)) [
+      | true ↦ answered_small r.0.src message
       | false ↦ tt
     ]
-datagram_small net body (Err fault) = tt
+datagram_small net octets (Err fault) = tt
 
--- what the body of a frame brings is small
-data_small : (net : Net) (ethertype : ℕ) (body : List ℕ) → IsSmall (data_brings net ethertype body)
-data_small net ethertype body =
-    elim (ethertype == 0x0806) as (λ b. IsSmall (if b then arp_brings (arp_of body) else (if ethertype == 0x0800 then datagram_brings net body (ip_of body) else Nothing))) [
-      | true ↦ arp_small (arp_of body) (λ p h. sender_six body p h)
-      | false ↦ elim (ethertype == 0x0800) as (λ b. IsSmall (if b then datagram_brings net body (ip_of body) else Nothing)) [
-        | true ↦ datagram_small net body (ip_of body)
+-- what the data of a frame brings is small
+data_small : (net : Net) (ethertype : ℕ) (octets : List ℕ) → IsSmall (data_brings net ethertype octets)
+data_small net ethertype octets =
+    elim (ethertype == 0x0806) as (λ b. IsSmall (if b then arp_brings (arp_of octets) else (if ethertype == 0x0800 then datagram_brings net octets (ip_of octets) else Nothing))) [
+      | true ↦ arp_small (arp_of octets) (λ p h. sender_six octets p h)
+      | false ↦ elim (ethertype == 0x0800) as (λ b. IsSmall (if b then datagram_brings net octets (ip_of octets) else Nothing)) [
+        | true ↦ datagram_small net octets (ip_of octets)
         | false ↦ tt
       ]
     ]
@@ -104,97 +127,206 @@ frame_small net octets (Ok r) =
     ]
 frame_small net octets (Err fault) = tt
 
--- a table with room for one entry more has the addresses that it had
-room_macs : (table : List ArpEntry) → All HasMac table → All HasMac (with_room table)
-room_macs table macs =
-    elim (nat_lt (length table) 10) as (λ b. All HasMac (if b then table else remove table (oldest_place table))) [
-      | true ↦ macs
-      | false ↦ All-append HasMac (take (oldest_place table) table) (drop (suc (oldest_place table)) table)
-          (All-take HasMac (oldest_place table) table macs) (All-drop HasMac (suc (oldest_place table)) table macs)
+-- The table
+
+-- what is found in a list is one of it
+found_in : {A : Type 0} (P : A → Type 0) (test : A → Bool) (xs : List A) → All P xs → Whole P (find test xs)
+found_in P test [] all = tt
+found_in P test (x ∷ xs) all =
+    elim (test x) as (λ b. Whole P (if b then Some x else find test xs)) [
+      | true ↦ All-head P x xs all
+      | false ↦ found_in P test xs (All-tail P x xs all)
     ]
 
--- so has a table in which an entry was placed
-placed_macs : (place : Option ℕ) (table : List ArpEntry) (entry : ArpEntry) (makes : Bool) → All HasMac table → HasMac entry → All HasMac (placed place table entry makes)
-placed_macs (Some i) table entry makes macs own = All-set HasMac table i entry own macs
-placed_macs None table entry true macs own =
-    All-append HasMac (with_room table) (entry ∷ []) (room_macs table macs) (All-cons HasMac entry [] own (All-nil HasMac))
-placed_macs None table entry false macs own = macs
+-- what stands at a place of a list is one of it
+stands_in : {A : Type 0} (P : A → Type 0) (xs : List A) (i : ℕ) → All P xs → Whole P (slice_get xs i)
+stands_in P [] i all = tt
+stands_in P (x ∷ xs) zero all = All-head P x xs all
+stands_in P (x ∷ xs) (suc i) all = stands_in P xs i (All-tail P x xs all)
 
--- so has a table that was taught
-learnt_macs : (own : Ip) (table : List ArpEntry) (p : ArpPacket) → All HasMac table → length p.smac.0 ≤ 6 → All HasMac (learnt own table p)
-learnt_macs own table p macs sender =
-    elim (p.sip.0 == own.0) as (λ b. All HasMac (if b then table else placed (place_of table p.sip) table (fresh p.sip p.smac) ((p.tip.0 == own.0) && not (p.sip.0 == 0)))) [
-      | true ↦ macs
-      | false ↦ placed_macs (place_of table p.sip) table (fresh p.sip p.smac) ((p.tip.0 == own.0) && not (p.sip.0 == 0)) macs sender
+-- each element of a list was changed
+all_changed : {A B : Type 0} (P : A → Type 0) (Q : B → Type 0) (f : A → B) (xs : List A) → ((x : A) → P x → Q (f x)) → All P xs → All Q (map f xs)
+all_changed P Q f [] keeps all = All-nil Q
+all_changed P Q f (x ∷ xs) keeps all =
+    All-cons Q (f x) (map f xs) (keeps x (All-head P x xs all)) (all_changed P Q f xs keeps (All-tail P x xs all))
+
+-- a table in which the entry of an address was changed
+changed_sound : (table : List (ArpEntry (List ℕ))) (ip : Ip) (f : ArpEntry (List ℕ) → ArpEntry (List ℕ)) → ((e : ArpEntry (List ℕ)) → IsSound e → IsSound (f e)) → All IsSound table → All IsSound (changed table ip f)
+changed_sound table ip f keeps sound =
+    all_changed IsSound IsSound (λ e. if is_of ip e then f e else e) table
+    (λ e own. elim (is_of ip e) as (λ b. IsSound (if b then f e else e)) [ true ↦ keeps e own | false ↦ own ]) sound
+
+-- a table without one entry
+without_sound : (table : List (ArpEntry (List ℕ))) (place : Option ℕ) → All IsSound table → All IsSound (without table place)
+without_sound table (Some i) sound =
+    All-append IsSound (take i table) (drop (suc i) table) (All-take IsSound i table sound) (All-drop IsSound (suc i) table sound)
+without_sound table None sound = sound
+
+-- a table with one entry more
+added_sound : (table : List (ArpEntry (List ℕ))) (e : ArpEntry (List ℕ)) → All IsSound table → IsSound e → All IsSound (added table e)
+added_sound table e sound own =
+    All-append IsSound (with_room table) (e ∷ []) (without_sound table (place_to_free table) sound) (All-cons IsSound e [] own (All-nil IsSound))
+
+-- a table after a lesson
+taught_sound : (l : Lesson) (table : List (ArpEntry (List ℕ))) (p : ArpPacket) → IsSix p.smac → All IsSound table → All IsSound (taught l table p)
+taught_sound NoLesson table p six sound = sound
+taught_sound Update table p six sound =
+    changed_sound table p.sip (told p.smac) (λ e own. record { mac = six; packet = tt }) sound
+taught_sound Make table p six sound = added_sound table (stable p.sip p.smac) sound (record { mac = six; packet = tt })
+
+-- a table after a lookup
+looked_up_sound : (table : List (ArpEntry (List ℕ))) (ip : Ip) → All IsSound table → All IsSound (looked_up table ip)
+looked_up_sound table ip sound =
+    elim (is_some (entry_of table ip)) as (λ b. All IsSound (if b then table else added table (pending ip))) [
+      | true ↦ sound
+      | false ↦ added_sound table (pending ip) sound (record { mac = tt; packet = tt })
     ]
 
--- the step of what arrived keeps the addresses
-arrival_macs : (s : State) (a : Arrival) → HasMacs s → IsSmall a → HasMacs (on_arrival s a).state
-arrival_macs s (Arp p) macs small = record { own = macs.own; others = learnt_macs s.net.ip s.neighbours p macs.others small }
-arrival_macs s (Echo src message) macs small = record { own = macs.own; others = macs.others }
-arrival_macs s Nothing macs small = record { own = macs.own; others = macs.others }
+-- what waits fits one frame
+abbrev FitsWaits : Option (Ip × List ℕ) → Type 0
+FitsWaits = Whole (λ w. IsPacket w.1)
 
--- a state in which a stack begins has the addresses that it needs
-pub opening_macs : (net : Net) (limits : Limits) → length net.mac.0 ≤ 6 → HasMacs (opening net limits)
-opening_macs net limits own = record { own = own; others = All-nil HasMac }
+-- a table in which a packet waits
+waiting_sound : (table : List (ArpEntry (List ℕ))) (waits : Option (Ip × List ℕ)) → FitsWaits waits → All IsSound table → All IsSound (waiting_in table waits)
+waiting_sound table (Some w) fits sound =
+    changed_sound (looked_up table w.0) w.0 (λ e. record e { packet = Some w.1 }) (λ e own. record { mac = own.mac; packet = fits })
+    (looked_up_sound table w.0 sound)
+waiting_sound table None fits sound = sound
 
--- each step keeps them
-pub step_macs : (s : State) (event : Event (List ℕ)) → HasMacs s → HasMacs (step s event).state
-step_macs s (Frame octets) macs = arrival_macs s (arrival_of s.net octets) macs (frame_small s.net octets (eth_of octets))
-step_macs s Stop macs = record { own = macs.own; others = macs.others }
+-- What goes out
 
--- the answer to a request is a short frame
-reply_short : (net : Net) (p : ArpPacket) → length net.mac.0 ≤ 6 → length p.smac.0 ≤ 6 → IsShort (arp_reply net p)
-reply_short net p own sender = simp length-append (omega arith)
+-- the packet of an entry that was found fits one frame
+packet_found : (o : Option (ArpEntry (List ℕ))) → Whole IsSound o → Whole IsPacket (option_and_then (λ (e : ArpEntry (List ℕ)). e.packet) o)
+packet_found (Some e) sound = sound.packet
+packet_found None sound = tt
 
--- a frame with a datagram is short
-datagram_short : (net : Net) (mac : Mac) (head : IpHead) (body : List ℕ) → length net.mac.0 ≤ 6 → length mac.0 ≤ 6 → 20 + length body ≤ 1500 → IsShort (datagram_frame net mac head body)
-datagram_short net mac head body own other few = simp (length-append, length-ip_spelling) (omega arith)
+-- so does the one that goes out after a lesson
+released_fits : (l : Lesson) (table : List (ArpEntry (List ℕ))) (p : ArpPacket) → All IsSound table → Whole IsPacket (released_by l table p)
+released_fits NoLesson table p sound = tt
+released_fits Update table p sound = packet_found (entry_of table p.sip) (found_in IsSound (is_of p.sip) table sound)
+released_fits Make table p sound = tt
 
--- the hardware address of an entry, or of what was found behind it
-chosen_six : (found : Bool) (e : ArpEntry) (more : Option ArpEntry) (mac : Mac) → HasMac e → ((m : Mac) → option_map (λ (x : ArpEntry). x.mac) more ≡ Some m → length m.0 ≤ 6) → option_map (λ (x : ArpEntry). x.mac) (if found then Some e else more) ≡ Some mac → length mac.0 ≤ 6
-chosen_six true e more mac own others is = subst (λ (m : Mac). length m.0 ≤ 6) (let same = is in cc) own
-chosen_six false e more mac own others is = others mac is
+-- the hardware address that a table has
+abbrev IsSixState : EntryState → Type 0
+IsSixState (Stable mac) = IsSix mac
+IsSixState Pending = Unit {0}
+IsSixState Empty = Unit {0}
 
--- the hardware address that is found in a table has six octets at most
-found_six : (test : ArpEntry → Bool) (table : List ArpEntry) (mac : Mac) → All HasMac table → option_map (λ (x : ArpEntry). x.mac) (find test table) ≡ Some mac → length mac.0 ≤ 6
-found_six test [] mac macs is = absurd (let none = is in cc)
-found_six test (e ∷ table) mac macs is =
-    chosen_six (test e) e (find test table) mac (All-head HasMac e table macs)
-    (λ m same. found_six test table m (All-tail HasMac e table macs) same) is
+-- by the hardware address of an entry
+state_by_six : (mac : Option Mac) → Whole IsSix mac → IsSixState (state_by mac)
+state_by_six (Some mac) six = six
+state_by_six None six = tt
 
--- one frame, or none where the datagram is too long
-fitting_short : (net : Net) (mac : Mac) (id : ℕ) (dst : Ip) (message : List ℕ) (fits : Bool) → length net.mac.0 ≤ 6 → length mac.0 ≤ 6 → (fits ≡ true → 20 + length message ≤ 1500) → All IsShort (if fits then datagram_frame net mac (sent_head net id 1 dst (length message)) message ∷ [] else [])
-fitting_short net mac id dst message true own other few =
-    let frame = datagram_frame net mac (sent_head net id 1 dst (length message)) message in
-    All-cons IsShort frame [] (datagram_short net mac (sent_head net id 1 dst (length message)) message own other (few refl)) (All-nil IsShort)
-fitting_short net mac id dst message false own other few = All-nil IsShort
+-- by the entry that was found
+state_six : (o : Option (ArpEntry (List ℕ))) → Whole IsSound o → IsSixState (option_map_or (λ (e : ArpEntry (List ℕ)). state_by e.mac) o Empty)
+state_six (Some e) sound = state_by_six e.mac sound.mac
+state_six None sound = tt
 
--- the frames that take a message to a neighbour are short
-message_short : (net : Net) (id : ℕ) (dst : Ip) (message : List ℕ) (neighbour : Option Mac) → length net.mac.0 ≤ 6 → ((mac : Mac) → neighbour ≡ Some mac → length mac.0 ≤ 6) → All IsShort (message_frames net id dst message neighbour)
-message_short net id dst message (Some mac) own other =
-    fitting_short net mac id dst message (nat_le (20 + length message) 1500) own (other mac refl) (λ fits. leb-true (20 + length message) 1500 fits)
-message_short net id dst message None own other = All-nil IsShort
+-- a frame with a packet is short
+packet_frame_short : (net : Net) (mac : Mac) (octets : List ℕ) → IsSix net.mac → IsSix mac → IsPacket octets → IsShort (packet_frame net mac octets)
+packet_frame_short net mac octets own other fits = simp length-append (omega arith)
 
--- the frames that take a message by way of a next hop are short
-routed_short : (s : State) (dst : Ip) (message : List ℕ) (route : Result Ip Code) → HasMacs s → All IsShort (routed_frames s dst message route)
-routed_short s dst message (Ok hop) macs =
-    message_short s.net s.next_id dst message (mac_of s.neighbours hop) macs.own (λ mac is. found_six (λ (e : ArpEntry). e.ip.0 == hop.0) s.neighbours mac macs.others is)
-routed_short s dst message (Err none) macs = All-nil IsShort
+-- a frame with an ARP packet is short
+arp_frame_short : (net : Net) (op : ℕ) (dst tmac : Mac) (tip : Ip) → IsSix net.mac → IsSix dst → IsSix tmac → IsShort (arp_frame net op dst tmac tip)
+arp_frame_short net op dst tmac tip own first second = simp length-append (omega arith)
 
--- the frames that answer an arrival are short
-arrival_short : (s : State) (a : Arrival) → HasMacs s → IsSmall a → All IsShort (answers s a)
-arrival_short s (Arp p) macs small =
-    elim (is_answered s.net.ip p) as (λ b. All IsShort (if b then arp_reply s.net p ∷ [] else [])) [
-      | true ↦ All-cons IsShort (arp_reply s.net p) [] (reply_short s.net p macs.own small) (All-nil IsShort)
-      | false ↦ All-nil IsShort
-    ]
-arrival_short s (Echo src message) macs small = routed_short s src message (route_of s.net src) macs
-arrival_short s Nothing macs small = All-nil IsShort
+-- a packet of a datagram fits one frame
+piece_fits : (h : IpHead) (message : List ℕ) (p : Piece) → IsPieceOf h (length message) mtu p → IsPacket (packet message p)
+piece_fits h message p is =
+    let fits = is.fits in
+    simp (length-append, length-ip_spelling, length-take) (omega arith)
 
--- the frames that a step sends are short, where hardware addresses have six octets
-pub step_short : (s : State) (event : Event (List ℕ)) → HasMacs s → All IsShort (step s event).frames
-step_short s (Frame octets) macs =
+-- all packets of a datagram do
+packets_fit : (h : IpHead) (message : List ℕ) → All IsPacket (packets h message)
+packets_fit h message =
+    all_changed (IsPieceOf h (length message) mtu) IsPacket (packet message) (pieces_of h (length message) mtu) (λ p is. piece_fits h message p is)
+    (pieces-each h (length message) mtu (omega arith))
+
+-- so does the last of packets
+last_fits : (hop : Ip) (ps : List (List ℕ)) → All IsPacket ps → FitsWaits (last_waits hop ps)
+last_fits hop ps fit = one (slice_get ps (length ps - 1)) (stands_in IsPacket ps (length ps - 1) fit)
+  where
+    one : (o : Option (List ℕ)) → Whole IsPacket o → FitsWaits (option_map (λ p. (hop, p)) o)
+    one (Some p) fits = fits
+    one None fits = tt
+
+-- frames are short, and what waits fits one
+record AreShort (o : Outgoing) : Type 0 where
+  frames : All IsShort o.frames
+  waits : FitsWaits o.waits
+
+-- what goes to a next hop
+to_hop_short : (net : Net) (hop : Ip) (ps : List (List ℕ)) (known : EntryState) → IsSix net.mac → All IsPacket ps → IsSixState known → AreShort (to_hop net hop ps known)
+to_hop_short net hop ps (Stable mac) own fit six = record {
+  frames = all_changed IsPacket IsShort (packet_frame net mac) ps (λ p fits. packet_frame_short net mac p own six fits) fit;
+  waits = tt;
+}
+to_hop_short net hop ps Pending own fit six = record { frames = All-nil IsShort; waits = last_fits hop ps fit }
+to_hop_short net hop ps Empty own fit six = record {
+  frames = All-cons IsShort (arp_request net hop) []
+      (arp_frame_short net 1 (record { 0 = replicate 6 255 }) (record { 0 = replicate 6 0 }) hop own (omega arith) (omega arith))
+      (All-nil IsShort);
+  waits = last_fits hop ps fit;
+}
+
+-- what goes to a destination
+to_destination_short : (s : State) (dst : Ip) (message : List ℕ) (route : Result Ip Code) → HasSound s → AreShort (to_destination s dst message route)
+to_destination_short s dst message (Ok hop) sound =
+    to_hop_short s.net hop (packets (sent_head s.net s.next_id 1 dst) message) (state_of s.neighbours hop) sound.own
+    (packets_fit (sent_head s.net s.next_id 1 dst) message)
+    (state_six (entry_of s.neighbours hop) (found_in IsSound (is_of hop) s.neighbours sound.others))
+to_destination_short s dst message (Err none) sound = record { frames = All-nil IsShort; waits = tt }
+
+-- the frame of a packet that waited
+released_short : (net : Net) (mac : Mac) (o : Option (List ℕ)) → IsSix net.mac → IsSix mac → Whole IsPacket o → All IsShort (released_frames net mac o)
+released_short net mac (Some octets) own other fits =
+    All-cons IsShort (packet_frame net mac octets) [] (packet_frame_short net mac octets own other fits) (All-nil IsShort)
+released_short net mac None own other fits = All-nil IsShort
+
+-- the answer to a request, if it is one
+reply_short : (net : Net) (p : ArpPacket) (answers : Bool) → IsSix net.mac → IsSix p.smac → All IsShort (if answers then arp_reply net p ∷ [] else [])
+reply_short net p true own sender =
+    All-cons IsShort (arp_reply net p) [] (arp_frame_short net 2 p.smac p.smac p.sip own sender sender) (All-nil IsShort)
+reply_short net p false own sender = All-nil IsShort
+
+-- what an arrival sends
+outgoing_short : (s : State) (a : Arrival) → HasSound s → IsSmall a → AreShort (outgoing s a)
+outgoing_short s (Arp p) sound small =
+    let out = released s.net.ip s.neighbours p in
+    record {
+      frames = All-append IsShort (if is_answered s.net.ip p then arp_reply s.net p ∷ [] else []) (released_frames s.net p.smac out)
+          (reply_short s.net p (is_answered s.net.ip p) sound.own small)
+          (released_short s.net p.smac out sound.own small (released_fits (lesson s.net.ip s.neighbours p) s.neighbours p sound.others));
+      waits = tt;
+    }
+outgoing_short s (Answered src message) sound small = to_destination_short s src message (route_of s.net src) sound
+outgoing_short s Nothing sound small = record { frames = All-nil IsShort; waits = tt }
+
+-- Steps
+
+-- the step of what arrived keeps the state sound
+arrival_sound : (s : State) (a : Arrival) → HasSound s → IsSmall a → HasSound (on_arrival s a).state
+arrival_sound s (Arp p) sound small =
+    record { own = sound.own; others = taught_sound (lesson s.net.ip s.neighbours p) s.neighbours p small sound.others }
+arrival_sound s (Answered src message) sound small =
+    record {
+      own = sound.own;
+      others = waiting_sound s.neighbours (outgoing s (Answered src message)).waits (outgoing_short s (Answered src message) sound small).waits sound.others;
+    }
+arrival_sound s Nothing sound small = record { own = sound.own; others = sound.others }
+
+-- a state in which a stack begins is sound
+pub opening_sound : (net : Net) (limits : Limits) → length net.mac.0 ≤ 6 → HasSound (opening net limits)
+opening_sound net limits own = record { own = own; others = All-nil IsSound }
+
+-- each step keeps it so
+pub step_sound : (s : State) (event : Event (List ℕ)) → HasSound s → HasSound (step s event).state
+step_sound s (Frame octets) sound = arrival_sound s (arrival_of s.net octets) sound (frame_small s.net octets (eth_of octets))
+step_sound s Stop sound = record { own = sound.own; others = sound.others }
+
+-- the frames that a step sends are short, where the state is sound
+pub step_short : (s : State) (event : Event (List ℕ)) → HasSound s → All IsShort (step s event).frames
+step_short s (Frame octets) sound =
     let a = arrival_of s.net octets in
-    All-take IsShort (frames_left s.sent) (answers s a) (arrival_short s a macs (frame_small s.net octets (eth_of octets)))
-step_short s Stop macs = All-nil IsShort
+    All-take IsShort (frames_left s.sent) (outgoing s a).frames (outgoing_short s a sound (frame_small s.net octets (eth_of octets))).frames
+step_short s Stop sound = All-nil IsShort

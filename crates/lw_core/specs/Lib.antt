@@ -1,4 +1,5 @@
 pub mod State
 pub mod Datagrams
+pub mod Arrivals
 pub mod Step
 pub mod History

@@ -1,14 +1,14 @@
 use Rattle.std.specs.Prelude.{ℕ, Bool, false, List, []}
 use Rattle.lw_base.specs.declared.addresses.Net.{Net}
 use Rattle.lw_base.specs.declared.limits.Limits.{Limits}
-use Rattle.lw_arp.specs.declared.table.ArpEntry.{ArpEntry}
+use Rattle.lw_arp.specs.declared.entries.ArpEntry.{ArpEntry}
 
 -- the state of a stack: its address and limits, what is known of its neighbours, the frames sent, the
 -- identification of the next datagram, how many frames came, and whether the run was stopped
 pub record State : Type 0 where
   pub net : Net
   pub limits : Limits
-  pub neighbours : List ArpEntry
+  pub neighbours : List (ArpEntry (List ℕ))
   pub sent : List (List ℕ)
   pub next_id : ℕ
   pub frames : ℕ

@@ -1,14 +1,15 @@
-ghost use Rattle.std.specs.Prelude.{◌≡◌, IfOk};
-ghost use Rattle.lw_icmp.specs.Messages.{echo_reply};
+ghost use Rattle.std.specs.Prelude.{◌≡◌, ◌≤◌, IfOk, IfSome, length};
+ghost use Rattle.lw_icmp.specs.Messages.{echo_reply, unreachable};
+ghost use Rattle.lw_core.specs.Arrivals.{answered, answering, arp_brings, arrival_of, data_brings, datagram_brings, is_taken, port_answer, IsShortAnswer, IsShortMessage};
 ghost use Rattle.lw_core.specs.Datagrams.{is_broadcast, is_fragment, is_own, is_sender};
-ghost use Rattle.lw_core.specs.Step.{arp_brings, arrival_of, data_brings, datagram_brings, echo_brings, is_taken};
 ghost use Rattle.lw_wire.specs.Arp.{arp_of};
 ghost use Rattle.lw_wire.specs.Ip.{ip_of};
+ghost use Rattle.lw_wire.specs.Udp.{udp_of};
 
 use crate::NoMemory;
 use lw_base::{ArpPacket, Ip, IpHead, Mac, Net, Octets};
-use lw_icmp::echo_reply;
-use lw_wire::{read_arp, read_eth, read_ip};
+use lw_icmp::{echo_reply, unreachable};
+use lw_wire::{read_arp, read_eth, read_ip, read_udp};
 use std::alloc::Global;
 
 /// The type of ARP in an Ethernet head (RFC 826).
@@ -20,18 +21,31 @@ pub const IPV4: u16 = 0x0800;
 /// The number of ICMP as a protocol (RFC 792).
 pub const ICMP: u8 = 1;
 
-/// What a frame brings to a stack: an ARP packet, an echo request, seen as its source and the message
-/// that answers it, or nothing that the stack takes.
+/// The number of TCP as a protocol (RFC 9293).
+const TCP: u8 = 6;
+
+/// The number of UDP as a protocol (RFC 768).
+const UDP: u8 = 17;
+
+/// The code of protocol unreachable (RFC 792).
+const PROTOCOL_UNREACHABLE: u8 = 2;
+
+/// The code of port unreachable (RFC 792).
+const PORT_UNREACHABLE: u8 = 3;
+
+/// What a frame brings to a stack: an ARP packet, a datagram that is answered, seen as its source and
+/// the message of ICMP that answers it, or nothing that the stack takes.
 #[derive(Drop)]
 pub enum Arrival {
     Arp(ArpPacket),
-    Echo(Ip, Octets),
+    Answered(Ip, Octets),
     Nothing,
 }
 
 /// What a frame brings to a stack with an address.
 pub fn arrival_of(alloc: Global, net: &Net, octets: &[u8]) -> Result<Arrival, NoMemory>
-    ensures { IfOk result (λ a. a ≡ arrival_of net.now octets.now) }
+    ensures exact { IfOk result (λ a. a ≡ arrival_of net.now octets.now) }
+    ensures short { IfOk result IsShortAnswer }
 {
     let Ok((head, place)) = read_eth(octets) else {
         return Ok(Arrival::Nothing);
@@ -44,7 +58,8 @@ pub fn arrival_of(alloc: Global, net: &Net, octets: &[u8]) -> Result<Arrival, No
 }
 
 fn data_brings(alloc: Global, net: &Net, ethertype: u16, body: &[u8]) -> Result<Arrival, NoMemory>
-    ensures { IfOk result (λ a. a ≡ data_brings net.now ethertype body.now) }
+    ensures exact { IfOk result (λ a. a ≡ data_brings net.now ethertype body.now) }
+    ensures short { IfOk result IsShortAnswer }
 {
     match ethertype {
         ARP => Ok(arp_brings(body)),
@@ -68,35 +83,97 @@ fn arp_brings(body: &[u8]) -> Arrival
     }
 }
 
-fn datagram_brings(alloc: Global, net: &Net, body: &[u8]) -> Result<Arrival, NoMemory>
-    ensures { IfOk result (λ a. a ≡ datagram_brings net.now body.now (ip_of body.now)) }
+fn datagram_brings(alloc: Global, net: &Net, octets: &[u8]) -> Result<Arrival, NoMemory>
+    ensures exact { IfOk result (λ a. a ≡ datagram_brings net.now octets.now (ip_of octets.now)) }
+    ensures short { IfOk result IsShortAnswer }
 {
-    let Ok((head, place)) = read_ip(body) else {
+    let Ok((head, place)) = read_ip(octets) else {
         return Ok(Arrival::Nothing);
     };
-    if !is_own(net, ICMP, &head) {
+    if !is_own(net, &head) {
         return Ok(Arrival::Nothing);
     }
-    echo_brings(alloc, head.src, &body[place..usize::from(head.total)])
+    let (header, _) = octets.split_at(place);
+    let body = &octets[place..usize::from(head.total)];
+    Ok(answered(head.src, answering(alloc, &head, header, body)?))
 }
 
-/// What a message of ICMP from a source brings.
-fn echo_brings(alloc: Global, src: Ip, message: &[u8]) -> Result<Arrival, NoMemory>
-    ensures { IfOk result (λ a. a ≡ echo_brings src (echo_reply message.now)) }
+/// What the message brings that answers a datagram, if there is one.
+fn answered(src: Ip, message: Option<Octets>) -> Arrival
+    requires { IfSome message IsShortMessage }
+    ensures exact { result ≡ answered src message }
+    ensures short { IsShortAnswer result }
 {
-    let mut answer = Vec::with_capacity(alloc, message.len())?;
-    if !echo_reply(message, &mut answer)? {
-        return Ok(Arrival::Nothing);
+    match message {
+        Some(message) => Arrival::Answered(src, message),
+        None => Arrival::Nothing,
     }
-    Ok(Arrival::Echo(src, Octets::from_vec(answer)))
 }
 
-/// Whether a datagram is a whole one of a protocol to the own address, from an address that may send
-/// one.
-fn is_own(net: &Net, proto: u8, head: &IpHead) -> bool
-    ensures { result ≡ is_own net.now proto head.now }
+/// The message of ICMP that answers a datagram, whose header has these octets too.
+fn answering(
+    alloc: Global,
+    head: &IpHead,
+    header: &[u8],
+    body: &[u8],
+) -> Result<Option<Octets>, NoMemory>
+    requires header { length header.now ≤ 255 }
+    requires body { length body.now ≤ 65535 }
+    ensures exact { IfOk result (λ m. m ≡ answering head.now header.now body.now) }
+    ensures short { IfOk result (λ m. IfSome m IsShortMessage) }
 {
-    head.dst.0 == net.ip.0 && is_sender(net, head.src) && head.proto == proto && !is_fragment(head)
+    match head.proto {
+        ICMP => echo_answer(alloc, body),
+        UDP => port_answer(alloc, head, header, body),
+        TCP => Ok(None),
+        _ => Ok(Some(refusal(alloc, PROTOCOL_UNREACHABLE, header, body)?)),
+    }
+}
+
+fn echo_answer(alloc: Global, body: &[u8]) -> Result<Option<Octets>, NoMemory>
+    requires { length body.now ≤ 65535 }
+    ensures exact { IfOk result (λ m. m ≡ echo_reply body.now) }
+    ensures short { IfOk result (λ m. IfSome m IsShortMessage) }
+{
+    let mut answer = Vec::with_capacity(alloc, body.len())?;
+    if !echo_reply(body, &mut answer)? {
+        return Ok(None);
+    }
+    Ok(Some(Octets::from_vec(answer)))
+}
+
+/// No port has an end.
+fn port_answer(
+    alloc: Global,
+    head: &IpHead,
+    header: &[u8],
+    body: &[u8],
+) -> Result<Option<Octets>, NoMemory>
+    requires { length header.now ≤ 255 }
+    ensures exact { IfOk result (λ m. m ≡ port_answer head.now header.now body.now) }
+    ensures short { IfOk result (λ m. IfSome m IsShortMessage) }
+{
+    if read_udp(body, head.src, head.dst).is_err() {
+        return Ok(None);
+    }
+    Ok(Some(refusal(alloc, PORT_UNREACHABLE, header, body)?))
+}
+
+fn refusal(alloc: Global, code: u8, header: &[u8], body: &[u8]) -> Result<Octets, NoMemory>
+    requires { length header.now ≤ 255 }
+    ensures exact { IfOk result (λ m. m ≡ unreachable code header.now body.now) }
+    ensures short { IfOk result IsShortMessage }
+{
+    let mut message = Vec::new(alloc);
+    unreachable(alloc, code, header, body, &mut message)?;
+    Ok(Octets::from_vec(message))
+}
+
+/// Whether a datagram is a whole one to the own address, from an address that may send one.
+fn is_own(net: &Net, head: &IpHead) -> bool
+    ensures { result ≡ is_own net.now head.now }
+{
+    head.dst.0 == net.ip.0 && is_sender(net, head.src) && !is_fragment(head)
 }
 
 fn is_fragment(head: &IpHead) -> bool

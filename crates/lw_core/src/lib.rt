@@ -4,6 +4,7 @@
 mod arrival;
 mod event;
 mod frames;
+mod outgoing;
 mod stack;
 
 pub use event::{Entry, Event, EventText, Reply};

@@ -1,16 +1,17 @@
-ghost use Rattle.std.specs.Prelude.{◌≡◌, ◌+◌, ◌%◌, ◌^◌, ◌∷◌, [], IfErr, IfOk, OnErr, OnOk, length};
-ghost use Rattle.lw_arp.specs.Neighbours.{mac_of};
+ghost use Rattle.std.specs.Prelude.{◌≡◌, ◌+◌, ◌%◌, ◌^◌, ◌∷◌, ◌≤◌, [], IfErr, IfOk, IfSome, OnErr, length};
 ghost use Rattle.lw_netif.specs.Route.{route_of};
 ghost use Rattle.lw_core.specs.State.{opening};
 ghost use Rattle.lw_core.specs.History.{IsStep};
-ghost use Rattle.lw_core.specs.Step.{answers, arrival_of, counted, going, id_behind, identified, message_frames, on_arrival, routed_frames, taught};
+ghost use Rattle.lw_core.specs.Step.{counted, going, id_after, id_behind, neighbours_after, on_arrival, outgoing, to_destination, waiting_in, IsUnknown};
+ghost use Rattle.lw_core.specs.Arrivals.{arrival_of, IsShortAnswer};
 
 use crate::NoMemory;
 use crate::arrival::{Arrival, arrival_of};
 use crate::event::{Entry, Event, Reply};
-use crate::frames::{MTU_DATA, arp_reply, message_frame};
+use crate::frames::{arp_reply, packet_frame, packets};
+use crate::outgoing::{Outgoing, at_once, silence, to_hop};
 use lw_arp::{ArpTable, is_answered};
-use lw_base::{ArpPacket, FrameList, Ip, Limits, Mac, Octets};
+use lw_base::{ArpPacket, FrameList, Ip, Limits, Octets};
 use lw_netif::Netif;
 use std::alloc::Global;
 use std::marker::Model;
@@ -20,7 +21,7 @@ use std::marker::Model;
 pub struct Core {
     netif: Netif,
     limits: Limits,
-    table: ArpTable,
+    table: ArpTable<Octets>,
     next_id: u16,
     frames: u32,
     stopped: bool,
@@ -91,22 +92,27 @@ impl Core {
         ensures err { OnErr result (self.new ≡ self.old) }
     {
         let arrival = arrival_of(alloc, self.netif.net(), octets)?;
-        let mut frames = self.answers(alloc, &arrival)?;
+        let Outgoing { frames, waits } = self.outgoing(alloc, &arrival)?;
+        let mut frames = frames.into_vec();
         frames.truncate(self.netif.left() as usize);
         self.netif.send(alloc, &frames)?;
-        self.learn(&arrival);
+        self.change(&arrival, waits);
         Ok(FrameList::from_vec(frames))
     }
 
     /// What an arrival changes beside the frames sent.
-    fn learn(&mut self, arrival: &Arrival)
-        ensures { self.new ≡ record self.old { neighbours = taught self.old arrival.now; next_id = identified self.old arrival.now; frames = counted self.old.frames } }
+    fn change(&mut self, arrival: &Arrival, waits: Option<(Ip, Octets)>)
+        requires { waits ≡ (outgoing self.old arrival.now).waits }
+        ensures { self.new ≡ record self.old { neighbours = neighbours_after self.old arrival.now; next_id = id_after self.old arrival.now; frames = counted self.old.frames } }
     {
         match arrival {
             Arrival::Arp(packet) => {
                 self.table.input(packet, self.netif.net().ip);
             }
-            Arrival::Echo(src, _) => self.count_datagram(*src),
+            Arrival::Answered(src, _) => {
+                self.count_datagram(*src);
+                self.wait(waits);
+            }
             Arrival::Nothing => {}
         }
         self.frames = self.frames.saturating_add(1);
@@ -121,64 +127,55 @@ impl Core {
         }
     }
 
-    /// The frames that answer an arrival.
-    fn answers(&self, alloc: Global, arrival: &Arrival) -> Result<Vec<Octets>, NoMemory>
-        ensures { IfOk result (λ frames. frames.items ≡ answers self.now arrival.now) }
+    /// Lets a packet wait for a next hop whose hardware address isn't known.
+    fn wait(&mut self, waits: Option<(Ip, Octets)>)
+        requires { IfSome waits (λ w. IsUnknown self.old.neighbours w.0) }
+        ensures { self.new ≡ record self.old { neighbours = waiting_in self.old.neighbours waits } }
+    {
+        if let Some((hop, packet)) = waits {
+            self.table.lookup(hop);
+            self.table.hold(hop, packet);
+        }
+    }
+
+    /// What goes out in answer to an arrival.
+    fn outgoing(&self, alloc: Global, arrival: &Arrival) -> Result<Outgoing, NoMemory>
+        requires { IsShortAnswer arrival.now }
+        ensures { IfOk result (λ o. o ≡ outgoing self.now arrival.now) }
     {
         match arrival {
-            Arrival::Arp(packet) => self.arp_answers(alloc, packet),
-            Arrival::Echo(src, message) => self.routed_frames(alloc, *src, message.as_slice()),
-            Arrival::Nothing => Ok(Vec::new(alloc)),
+            Arrival::Arp(packet) => Ok(at_once(self.arp_frames(alloc, packet)?)),
+            Arrival::Answered(src, message) => self.to_destination(alloc, *src, message.as_slice()),
+            Arrival::Nothing => Ok(silence(alloc)),
         }
     }
 
-    fn arp_answers(&self, alloc: Global, packet: &ArpPacket) -> Result<Vec<Octets>, NoMemory>
-        ensures { IfOk result (λ frames. frames.items ≡ answers self.now (Arrival.Arp packet.now)) }
+    /// The answer to an ARP request, and what waited for its sender.
+    fn arp_frames(&self, alloc: Global, packet: &ArpPacket) -> Result<Vec<Octets>, NoMemory>
+        ensures { IfOk result (λ frames. frames.items ≡ (outgoing self.now (Arrival.Arp packet.now)).frames) }
     {
-        if !is_answered(packet, self.netif.net().ip) {
-            return Ok(Vec::new(alloc));
+        let net = self.netif.net();
+        let mut frames = Vec::new(alloc);
+        if is_answered(packet, net.ip) {
+            frames.push(arp_reply(alloc, net, packet)?)?;
         }
-        one(alloc, arp_reply(alloc, self.netif.net(), packet)?)
+        if let Some(waiting) = self.table.released(packet, net.ip) {
+            frames.push(packet_frame(alloc, net, packet.smac, waiting.as_slice())?)?;
+        }
+        Ok(frames)
     }
 
-    fn routed_frames(&self, alloc: Global, dst: Ip, message: &[u8]) -> Result<Vec<Octets>, NoMemory>
-        ensures { IfOk result (λ frames. frames.items ≡ routed_frames self.now dst message.now (route_of self.now.net dst)) }
+    fn to_destination(&self, alloc: Global, dst: Ip, message: &[u8]) -> Result<Outgoing, NoMemory>
+        requires { length message.now ≤ 65535 }
+        ensures { IfOk result (λ o. o ≡ to_destination self.now dst message.now (route_of self.now.net dst)) }
     {
-        match self.netif.route(dst) {
-            Ok(hop) => self.message_frames(alloc, dst, message, self.table.mac_of(hop)),
-            Err(_) => Ok(Vec::new(alloc)),
-        }
+        let Ok(hop) = self.netif.route(dst) else {
+            return Ok(silence(alloc));
+        };
+        let net = self.netif.net();
+        let packets = packets(alloc, net, self.next_id, dst, message)?;
+        to_hop(alloc, net, hop, packets, self.table.state_of(hop))
     }
-
-    fn message_frames(
-        &self,
-        alloc: Global,
-        dst: Ip,
-        message: &[u8],
-        neighbour: Option<Mac>,
-    ) -> Result<Vec<Octets>, NoMemory>
-        ensures { IfOk result (λ frames. frames.items ≡ message_frames self.now.net self.now.next_id dst message.now neighbour) }
-    {
-        match neighbour {
-            Some(mac) if message.len() <= MTU_DATA => {
-                let net = self.netif.net();
-                one(
-                    alloc,
-                    message_frame(alloc, net, mac, self.next_id, dst, message)?,
-                )
-            }
-            _ => Ok(Vec::new(alloc)),
-        }
-    }
-}
-
-/// A list of one frame.
-fn one(alloc: Global, frame: Octets) -> Result<Vec<Octets>, NoMemory>
-    ensures { IfOk result (λ frames. frames.items ≡ frame ∷ []) }
-{
-    let mut frames = Vec::with_capacity(alloc, 1)?;
-    frames.push(frame)?;
-    Ok(frames)
 }
 
 /// The entry of an event that was done, and its reply.

@@ -6,7 +6,7 @@ use Rattle.lw_core.specs.declared.event.Entry.{Entry}
 use Rattle.lw_core.specs.State.{State, opening}
 use Rattle.lw_core.specs.Step.{step}
 use Rattle.lw_core.specs.History.{entry_of, state_after}
-use Rattle.lw_core.proofs.FramesLaws.{HasMacs, opening_macs, step_macs, step_short}
+use Rattle.lw_core.proofs.FramesLaws.{HasSound, opening_sound, step_sound, step_short}
 use Rattle.lw_script.specs.declared.parts.Call.{Call}
 use Rattle.lw_script.specs.declared.parts.Call.TheVariants.{FeedAll, Stop}
 use Rattle.lw_script.specs.declared.parts.Script.{Script}
@@ -20,13 +20,13 @@ use Rattle.lw_rules.specs.Lines.{core_line, core_lines_from}
 use Rattle.lw_rules.specs.Schedule.{Configuration, entries_of, turn, call_parts, after_calls, beginning, body_of, serial_transcript}
 
 -- lines of short frames, and then other lines
-core_short : (s : State) (n : ℕ) (frames : List (List ℕ)) (more : List Entry) → HasMacs s → All IsFrame frames → ((k : ℕ) → All IsCore (core_lines_from k more)) → All IsCore (core_lines_from n (entries_of s 0 (map Frame frames) ++ more))
-core_short s n [] more macs short rest = rest n
-core_short s n (frame ∷ frames) more macs short rest =
+core_short : (s : State) (n : ℕ) (frames : List (List ℕ)) (more : List Entry) → HasSound s → All IsFrame frames → ((k : ℕ) → All IsCore (core_lines_from k more)) → All IsCore (core_lines_from n (entries_of s 0 (map Frame frames) ++ more))
+core_short s n [] more sound short rest = rest n
+core_short s n (frame ∷ frames) more sound short rest =
     All-cons IsCore (core_line n (entry_of s 0 (Frame frame)))
     (core_lines_from (n + 1) (entries_of (step s (Frame frame)).state 0 (map Frame frames) ++ more))
-    (record { event = All-head IsFrame frame frames short; outs = step_short s (Frame frame) macs })
-    (core_short (step s (Frame frame)).state (n + 1) frames more (step_macs s (Frame frame) macs) (All-tail IsFrame frame frames short) rest)
+    (record { event = All-head IsFrame frame frames short; outs = step_short s (Frame frame) sound })
+    (core_short (step s (Frame frame)).state (n + 1) frames more (step_sound s (Frame frame) sound) (All-tail IsFrame frame frames short) rest)
 
 -- the texts of calls are words with single spaces
 text_of_call : (call : Call) → IsCallText (call_text call)
@@ -57,7 +57,7 @@ core_of_run : (script : Script) (frames : List (List ℕ)) → length script.net
 core_of_run script frames own short =
     let s = opening script.net (limits_of script.profile) in
     let stop = entry_of (state_after s (map Frame frames)) 0 StopEvent in
-    core_short s 1 frames (stop ∷ []) (opening_macs script.net (limits_of script.profile) own) short
+    core_short s 1 frames (stop ∷ []) (opening_sound script.net (limits_of script.profile) own) short
     (λ k. All-cons IsCore (core_line k stop) [] (record { event = tt; outs = All-nil IsFrame }) (All-nil IsCore))
 
 -- the schedule of a script whose driver has the one command `feed all` gives a transcript of the grammar

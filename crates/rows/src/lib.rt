@@ -3,11 +3,11 @@
 #![tactic(auto)]
 
 #[cfg(test)]
+mod answers;
+#[cfg(test)]
 mod captures;
 #[cfg(test)]
 mod echo_cases;
-#[cfg(test)]
-mod echoes;
 #[cfg(test)]
 mod exchange;
 #[cfg(test)]
@@ -16,3 +16,7 @@ mod narrow;
 mod program;
 #[cfg(test)]
 mod tests;
+#[cfg(test)]
+mod unreachable_cases;
+#[cfg(test)]
+mod waiting_cases;

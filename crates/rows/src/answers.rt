@@ -1,5 +1,7 @@
 use crate::echo_cases::ECHO_CASES;
 use crate::exchange::Exchange;
+use crate::unreachable_cases::UNREACHABLE_CASES;
+use crate::waiting_cases::WAITING_CASES;
 use std::alloc::Global;
 use std::process::Abort;
 use std::test::Fail;
@@ -36,6 +38,18 @@ fn each(rt: &impl Abort, alloc: Global, table: &str) -> Result<u32, Fail> {
 
 #[test]
 fn echo_requests(rt: HostRuntime) -> Result<(), Fail> {
-    assert_eq!(rt; each(&rt, rt.alloc(), ECHO_CASES)?, 48);
+    assert_eq!(rt; each(&rt, rt.alloc(), ECHO_CASES)?, 44);
+    Ok(())
+}
+
+#[test]
+fn answers_that_wait(rt: HostRuntime) -> Result<(), Fail> {
+    assert_eq!(rt; each(&rt, rt.alloc(), WAITING_CASES)?, 11);
+    Ok(())
+}
+
+#[test]
+fn what_is_unreachable(rt: HostRuntime) -> Result<(), Fail> {
+    assert_eq!(rt; each(&rt, rt.alloc(), UNREACHABLE_CASES)?, 20);
     Ok(())
 }
