@@ -1,11 +1,10 @@
 -- Pages that are printed on twice, and texts of one element more.
-use Rattle.std.specs.Prelude.{ℕ, ◌+◌, ◌<◌, ◌≤◌, ◌≡◌, ◌/◌, ◌%◌, List, [], ◌∷◌, ◌++◌, length, take, slice_index}
-use Rattle.std.proofs.Common.{refl, sym, ◌∙◌, ap, subst, get_or, arith}
+use Rattle.std.specs.Prelude.{ℕ, ◌+◌, ◌<◌, ◌≤◌, ◌≡◌, List, [], ◌∷◌, ◌++◌, length, take}
+use Rattle.std.proofs.Common.{refl, sym, ap, subst, get_or, arith}
 use Rattle.std.proofs.lemmas.Grind.{common_steps}
 use Rattle.std.proofs.lemmas.List.{take_more, take_all, append-nil, length-take-le}
 use Rattle.std.proofs.lemmas.List.Concat.{flat_map-append}
 use Rattle.std.specs.List.{flat_map}
-use Rattle.hex.specs.Hex.{encode_lower, encode_with, lower_digits}
 use Rattle.lw_transcript.specs.declared.page.Page.{Page}
 use Rattle.lw_transcript.specs.Page.{Prints}
 use Rattle.lw_transcript.specs.Transcript.{numbered}
@@ -34,30 +33,6 @@ Prints-same {a} {b} p e = subst (λ (x : List ℕ). Prints a b x) e p
 pub Prints-whole : {X : Type 0} {a b : Page} (f : List X → List ℕ) (xs : List X) (i : ℕ) → length xs ≤ i
     → Prints a b (f (take i xs)) → Prints a b (f xs)
 Prints-whole f xs i h p = Prints-same p (ap f (take_all i xs h))
-
--- the digits of octets in two parts
-pub encode_with-append : (t xs ys : List ℕ) → encode_with t (xs ++ ys) ≡ encode_with t xs ++ encode_with t ys
-unfolding encode_with
-encode_with-append t [] ys = refl
-encode_with-append t (x ∷ xs) ys =
-    ap (λ (r : List ℕ). slice_index t (x / 16) ∷ slice_index t (x % 16) ∷ r) (encode_with-append t xs ys)
-
--- no octets have no digits
-pub Prints-digits-none : (page : Page) → Prints page page (encode_lower [])
-unfolding encode_with
-Prints-digits-none page = record {
-  front = record { rest = []; is = sym (append-nil page.octets.items) };
-  earlier = λ h. h;
-  added = λ _. sym (append-nil page.octets.items);
-}
-
--- the digits of one octet more
-pub Prints-octet : {a b c : Page} (xs : List ℕ) (i : ℕ) → i < length xs → Prints a b (encode_lower (take i xs))
-    → Prints b c (encode_lower (get_or xs i 0 ∷ [])) → Prints a c (encode_lower (take (i + 1) xs))
-Prints-octet xs i h first second =
-    let e = take_more xs i 0 h in
-    Prints-same (Prints-then first second)
-    (sym (ap encode_lower e ∙ encode_with-append lower_digits (take i xs) (get_or xs i 0 ∷ [])))
 
 -- the texts of one element more
 flat_map-more : {X : Type 0} (f : X → List ℕ) (xs : List X) (i : ℕ) (x : X) → i < length xs → x ≡ get_or xs i x

@@ -1,7 +1,8 @@
-ghost use Rattle.std.specs.Prelude.{[], ◌∷◌, decimal};
+ghost use Rattle.std.specs.Prelude.{◌≡◌, ◌++◌, OnErr, OnOk, decimal};
 ghost use Rattle.hex.specs.Hex.{encode_lower};
 
 use itoa::Buffer;
+use std::alloc::AllocError;
 
 /// The octets that are printed so far. `short` says that memory was wanting: then nothing more is
 /// printed.
@@ -42,17 +43,23 @@ impl Page {
     pub fn hex(&mut self, octets: &[u8])
         ensures { Prints self.old self.new (encode_lower octets.now) }
     {
-        for octet in octets {
-            self.digits(*octet);
+        if self.short {
+            return;
         }
+        self.short = put_hex(octets, &mut self.octets).is_err();
     }
+}
 
-    // The two digits of an octet.
-    fn digits(&mut self, octet: u8)
-        ensures { Prints self.old self.new (encode_lower (octet ∷ [])) }
-    {
-        let mut digits = [0; 2];
-        hex::encode_to_slice([octet], &mut digits).unwrap();
-        self.put(&digits);
-    }
+/// Puts octets in hexadecimal behind a list, where there is memory.
+fn put_hex(octets: &[u8], out: &mut Vec<u8>) -> Result<(), AllocError>
+    ensures ok { OnOk result (out.new.items ≡ out.old.items ++ encode_lower octets.now) }
+    ensures err { OnErr result (out.new.items ≡ out.old.items) }
+{
+    let front = out.len();
+    let twice = octets.len().checked_mul(2).ok_or(AllocError)?;
+    let whole = front.checked_add(twice).ok_or(AllocError)?;
+    out.resize(whole, 0)?;
+    let (_, digits) = out.split_at_mut(front);
+    hex::encode_to_slice(octets, digits).unwrap();
+    Ok(())
 }

@@ -1,0 +1,147 @@
+//! The counts of kept pbufs, as plain numbers.
+ghost use Rattle.std.specs.Prelude.{◌≡◌, ℕ, ◌+◌, ◌-◌, ◌^◌, ◌<◌, ◌↔◌, length, vec_len, replicate, slice_index, slice_set, count_by, ◌==◌, if◌then◌else◌, IsTrue, IfOk};
+ghost use Rattle.lw_payload.specs.Views.{Slot};
+ghost use Rattle.lw_payload.specs.declared.kinds.Kind.{Kind};
+
+use lw_payload::Kind;
+use std::alloc::{AllocError, Global};
+
+/// How many owners each pbuf of each kept kind has, by its place. A kind that is not kept has none.
+#[derive(Drop)]
+pub struct Kept {
+    pub ram: Vec<u32>,
+    pub pool: Vec<u32>,
+    pub rom: Vec<u32>,
+    pub reference: Vec<u32>,
+    ghost small: { (vec_len ram < 2 ^ 32) × (vec_len pool < 2 ^ 32) × (vec_len rom < 2 ^ 32) × (vec_len reference < 2 ^ 32) },
+}
+
+impl Kept {
+    ghost use Rattle.pbuf_seats.specs.Kept.{counts_of, rows_of, row_at, free_count, all_free};
+
+    /// So many pbufs of each kind, none of which has an owner.
+    pub fn new(
+        alloc: Global,
+        ram: u32,
+        pool: u32,
+        rom: u32,
+        reference: u32,
+    ) -> Result<Kept, AllocError>
+        ensures ram { IfOk result (λ k. k.ram.items ≡ replicate ram 0) }
+        ensures pool { IfOk result (λ k. k.pool.items ≡ replicate pool 0) }
+        ensures rom { IfOk result (λ k. k.rom.items ≡ replicate rom 0) }
+        ensures reference { IfOk result (λ k. k.reference.items ≡ replicate reference 0) }
+    {
+        Ok(Kept {
+            ram: vec![in alloc; 0; ram as usize]?,
+            pool: vec![in alloc; 0; pool as usize]?,
+            rom: vec![in alloc; 0; rom as usize]?,
+            reference: vec![in alloc; 0; reference as usize]?,
+        })
+    }
+
+    /// The counts of one kind.
+    pub fn of(&self, kind: Kind) -> &[u32]
+        ensures counts { result.now ≡ counts_of kind self.now }
+        ensures few { length result.now < 2 ^ 32 }
+    {
+        match kind {
+            Kind::Ram => &self.ram,
+            Kind::Pool => &self.pool,
+            Kind::Rom => &self.rom,
+            Kind::Ref => &self.reference,
+        }
+    }
+
+    /// How many pbufs of the kind have no owner.
+    pub fn free(&self, kind: Kind) -> u32
+        ensures { result ≡ free_count (counts_of kind self.now) }
+    {
+        self.of(kind).iter().filter(|n| **n == 0).count() as u32
+    }
+
+    /// How many owners the pbuf at this place has; none where there is no such place.
+    pub fn count(&self, kind: Kind, place: u32) -> u32
+        ensures { result ≡ rows_of self.now (record { kind = kind; place = place }) }
+    {
+        self.of(kind).get(place as usize).copied().unwrap_or(0)
+    }
+
+    /// Takes the pbuf at this place, which has no owner.
+    pub fn take(&mut self, kind: Kind, place: u32)
+        requires there { place < length (counts_of kind self.old) }
+        requires free { rows_of self.old (record { kind = kind; place = place }) ≡ 0 }
+        ensures owned { rows_of self.new (record { kind = kind; place = place }) ≡ 1 }
+        ensures rows { (s : Slot) → rows_of self.new s ≡ rows_of self.old s + row_at kind place s }
+        ensures sizes { (k : Kind) → length (counts_of k self.new) ≡ length (counts_of k self.old) }
+    {
+        match kind {
+            Kind::Ram => take(&mut self.ram, place),
+            Kind::Pool => take(&mut self.pool, place),
+            Kind::Rom => take(&mut self.rom, place),
+            Kind::Ref => take(&mut self.reference, place),
+        }
+    }
+
+    /// Gives an owner of the pbuf at this place up, and tells whether it was the last.
+    pub fn give(&mut self, kind: Kind, place: u32) -> bool
+        requires owned { 0 < rows_of self.old (record { kind = kind; place = place }) }
+        ensures rows { (s : Slot) → rows_of self.new s + row_at kind place s ≡ rows_of self.old s }
+        ensures last { IsTrue result ↔ (rows_of self.new (record { kind = kind; place = place }) ≡ 0) }
+        ensures free { all_free self.new ≡ all_free self.old + (if result then 1 else 0) }
+        ensures sizes { (k : Kind) → length (counts_of k self.new) ≡ length (counts_of k self.old) }
+    {
+        match kind {
+            Kind::Ram => give(&mut self.ram, place),
+            Kind::Pool => give(&mut self.pool, place),
+            Kind::Rom => give(&mut self.rom, place),
+            Kind::Ref => give(&mut self.reference, place),
+        }
+    }
+
+    /// Adds an owner of the pbuf at this place, which has one already.
+    pub fn add(&mut self, kind: Kind, place: u32)
+        requires owned { 0 < rows_of self.old (record { kind = kind; place = place }) }
+        requires small { rows_of self.old (record { kind = kind; place = place }) + 1 < 2 ^ 32 }
+        ensures rows { (s : Slot) → rows_of self.new s ≡ rows_of self.old s + row_at kind place s }
+        ensures count { rows_of self.new (record { kind = kind; place = place }) ≡ rows_of self.old (record { kind = kind; place = place }) + 1 }
+        ensures sizes { (k : Kind) → length (counts_of k self.new) ≡ length (counts_of k self.old) }
+    {
+        match kind {
+            Kind::Ram => add(&mut self.ram, place),
+            Kind::Pool => add(&mut self.pool, place),
+            Kind::Rom => add(&mut self.rom, place),
+            Kind::Ref => add(&mut self.reference, place),
+        }
+    }
+}
+
+// One owner less of the pbuf at this place; whether it was the last.
+fn give(counts: &mut [u32], place: u32) -> bool
+    requires owned { 0 < slice_index counts.old place }
+    ensures counts { counts.new ≡ slice_set counts.old place (slice_index counts.old place - 1) }
+    ensures last { IsTrue result ↔ (slice_index counts.old place ≡ 1) }
+    ensures free { count_by (λ n. n == 0) counts.new ≡ count_by (λ n. n == 0) counts.old + (if result then 1 else 0) }
+{
+    let place = place as usize;
+    counts[place] -= 1;
+    counts[place] == 0
+}
+
+// One owner more.
+fn add(counts: &mut [u32], place: u32)
+    requires owned { 0 < slice_index counts.old place }
+    requires small { slice_index counts.old place + 1 < 2 ^ 32 }
+    ensures { counts.new ≡ slice_set counts.old place (slice_index counts.old place + 1) }
+{
+    counts[place as usize] += 1;
+}
+
+// The first owner.
+fn take(counts: &mut [u32], place: u32)
+    requires there { place < length counts.old }
+    requires free { slice_index counts.old place ≡ 0 }
+    ensures { counts.new ≡ slice_set counts.old place 1 }
+{
+    counts[place as usize] = 1;
+}

@@ -1,0 +1,320 @@
+//! A seat: what pbufs are taken from, and given up to.
+ghost use Rattle.std.specs.Prelude.{◌≡◌, ℕ, ◌+◌, ◌-◌, ◌^◌, ◌<◌, ◌≤◌, [], true, false, length, replicate, ◌∷◌, ◌↔◌, min, if◌then◌else◌, IsTrue, IsSome, IsNone, IfSome, IfOk, OnErr};
+ghost use Rattle.lw_payload.specs.Views.{Slot, pbufs_of};
+ghost use Rattle.lw_payload.specs.declared.kinds.Kind.{Kind};
+ghost use Rattle.pbuf_counts.specs.Owners.{whole, claim_weight, first_adds};
+ghost use Rattle.pbuf_counts.specs.Holders.{idle_of, owner_of};
+ghost use Rattle.pbuf_seats.specs.Kept.{counts_of, rows_of, free_count};
+ghost use Rattle.pbuf_seats.specs.Owners.{IsOwner, GaveUp, HasRoom, sharing, share_of, ended_at, row_of, weight_of, adds_of};
+ghost use Rattle.pbuf_seats.specs.Seats.{IsParted, joined, IsLookedOver, IsInUse};
+ghost use Rattle.pbuf_seats.specs.declared.owner.Owner.{Owner};
+
+use crate::NoMemory;
+use crate::kept::Kept;
+use crate::makes::Makes;
+use crate::owner::{Owner, Row};
+use lw_base::Limits;
+use lw_payload::Kind;
+use pbuf_counts::{Claim, Counts, Dropped, Holder};
+use std::alloc::Global;
+use std::marker::Model;
+use std::sync::Arc;
+
+// The adds of a pbuf's first owner.
+const FIRST_ADDS: u32 = 65_534;
+
+// So often the first seat may split.
+const SPLITS: u32 = 65_535;
+
+/// How many pbufs of each kind have no owner.
+#[derive(Clone, Copy, Debug, PartialEq, Eq)]
+pub struct Free {
+    pub ram: u32,
+    pub pool: u32,
+    pub rom: u32,
+    pub reference: u32,
+}
+
+/// What pbufs are taken from, and given up to. The first seat has the counts of the kept pbufs.
+#[derive(Drop)]
+pub struct PoolSeat {
+    counts: Arc<Counts>,
+    holder: Holder,
+    kept: Kept,
+    makes: Makes,
+    splits: u32,
+    claimed: u32,
+}
+
+impl Model for PoolSeat {
+    ghost use Rattle.std.specs.Coded.{codes};
+    ghost use Rattle.atomic_table.specs.Seated.{table_id_coded};
+    ghost use Rattle.pbuf_seats.specs.Seats.{SeatSeen};
+
+    ghost Value = { SeatSeen };
+
+    ghost coded = { Prim.hlevel (codes, table_id_coded) };
+
+    ghost use Rattle.std.specs.Arc.{arc_value};
+    ghost use Rattle.pbuf_seats.specs.Seats.{IsSeat};
+
+    ghost view = { λ s. record { holder = s.holder; kept = s.kept; makes = s.makes; splits = s.splits; claimed = s.claimed } };
+
+    ghost invariant = { λ s. IsSeat (arc_value s.counts) (record { holder = s.holder; kept = s.kept; makes = s.makes; splits = s.splits; claimed = s.claimed }) };
+}
+
+impl PoolSeat {
+    /// The first seat. RAM, ROM and REF are kept, and POOL is where `alone` is true; else its counts are atomic.
+    pub fn new(alloc: Global, l: &Limits, alone: bool) -> Result<PoolSeat, NoMemory>
+        requires pool { (0 < l.now.pool) × (l.now.pool ≤ 4096) }
+        ensures holder { IfOk result (λ s. s.holder ≡ idle_of s.holder.table whole 1 []) }
+        ensures words { IfOk result (λ s. s.holder.table.words ≡ l.now.pool) }
+        ensures ram { IfOk result (λ s. s.kept.ram.items ≡ replicate l.now.ram 0) }
+        ensures rom { IfOk result (λ s. s.kept.rom.items ≡ replicate l.now.rom 0) }
+        ensures reference { IfOk result (λ s. s.kept.reference.items ≡ replicate l.now.reference 0) }
+        ensures alone { alone ≡ true → IfOk result (λ s. s.kept.pool.items ≡ replicate l.now.pool 0) }
+        ensures shared { alone ≡ false → IfOk result (λ s. s.kept.pool.items ≡ []) }
+        ensures makes { IfOk result (λ s. s.makes ≡ record { made = 0; refused = 0; last_refused = 0; asked = 0 }) }
+        ensures splits { IfOk result (λ s. s.splits ≡ 65535) }
+        ensures claimed { IfOk result (λ s. s.claimed ≡ 0) }
+    {
+        let pool = if alone { l.pool } else { 0 };
+        let kept = Kept::new(alloc, l.ram, pool, l.rom, l.reference)?;
+        let (counts, holder) = Counts::new(alloc, l.pool)?;
+        Ok(PoolSeat {
+            counts: Arc::new(alloc, counts)?,
+            holder,
+            kept,
+            makes: Makes::NONE,
+            splits: SPLITS,
+            claimed: 0,
+        })
+    }
+
+    /// A second seat, with the right to claim POOL where `claims` is true. It keeps no pbufs, and splits no more.
+    pub fn split(&mut self, alloc: Global, claims: bool) -> Result<PoolSeat, NoMemory>
+        requires splits { 0 < self.old.splits }
+        requires right { claims ≡ true → self.old.holder.rights ≡ 1 }
+        ensures parted { IfOk result (λ s. IsParted claims self.old.holder self.new.holder s.holder) }
+        ensures first { IfOk result (λ _. self.new ≡ record self.old { holder = self.new.holder; splits = self.old.splits - 1 }) }
+        ensures none_kept { IfOk result (λ s. (k : Kind) → length (counts_of k s.kept) ≡ 0) }
+        ensures makes { IfOk result (λ s. s.makes ≡ record { made = 0; refused = 0; last_refused = 0; asked = if claims then self.old.makes.asked else 0 }) }
+        ensures no_splits { IfOk result (λ s. s.splits ≡ 0) }
+        ensures none_claimed { IfOk result (λ s. s.claimed ≡ 0) }
+        ensures err { OnErr result (self.new ≡ self.old) }
+    {
+        let kept = Kept::new(alloc, 0, 0, 0, 0)?;
+        let counts = Arc::try_clone(&self.counts)?;
+        let holder = self.counts.part(&mut self.holder, claims);
+        self.splits -= 1;
+        let asked = if claims { self.makes.asked } else { 0 };
+        Ok(PoolSeat {
+            counts,
+            holder,
+            kept,
+            makes: Makes {
+                asked,
+                ..Makes::NONE
+            },
+            splits: 0,
+            claimed: 0,
+        })
+    }
+
+    /// Takes in another seat, which keeps no pbufs. The numbers of makes stay, but for those asked, which are added.
+    pub fn join(&mut self, o: PoolSeat)
+        requires table { o.holder.table ≡ self.old.holder.table }
+        requires none_kept { (k : Kind) → length (counts_of k o.kept) ≡ 0 }
+        ensures { self.new ≡ record self.old { holder = joined self.old.holder o.holder; makes = record self.old.makes { asked = min (self.old.makes.asked + o.makes.asked) (2 ^ 64 - 1) } } }
+    {
+        let PoolSeat {
+            counts: _counts,
+            holder,
+            kept: _kept,
+            makes,
+            splits: _,
+            claimed: _,
+        } = o;
+        self.counts.join(&mut self.holder, holder);
+        self.makes.asked = self.makes.asked.saturating_add(makes.asked);
+    }
+
+    /// How many pbufs have no owner. Where POOL is not kept it looks at each of its pbufs once.
+    pub fn free(&mut self) -> Free
+        ensures ram { result.ram ≡ free_count self.old.kept.ram.items }
+        ensures rom { result.rom ≡ free_count self.old.kept.rom.items }
+        ensures reference { result.reference ≡ free_count self.old.kept.reference.items }
+        ensures pool_kept { 0 < length self.old.kept.pool.items → (result.pool ≡ free_count self.old.kept.pool.items) × (self.new ≡ self.old) }
+        ensures pool_shared { self.old.kept.pool.items ≡ [] → IsLookedOver self.old.holder self.new.holder self.old.holder.table.words result.pool }
+        ensures same { self.new ≡ record self.old { holder = self.new.holder } }
+        ensures all { self.old.kept.pool.items ≡ [] → self.old.holder.weight ≡ whole → result.pool ≡ self.old.holder.table.words }
+    {
+        Free {
+            ram: self.kept.free(Kind::Ram),
+            pool: if self.kept.pool.is_empty() {
+                look_over(&self.counts, &mut self.holder)
+            } else {
+                self.kept.free(Kind::Pool)
+            },
+            rom: self.kept.free(Kind::Rom),
+            reference: self.kept.free(Kind::Ref),
+        }
+    }
+
+    /// How many pbufs of the kind it keeps: none of POOL where the counts of POOL are atomic.
+    pub fn kept(&self, kind: Kind) -> u32
+        ensures { result ≡ length (counts_of kind self.now.kept) }
+    {
+        self.kept.of(kind).len() as u32
+    }
+
+    /// How many pbufs of POOL have atomic counts.
+    pub fn counted(&self) -> u32
+        ensures { result ≡ self.now.holder.table.words }
+    {
+        self.counts.len()
+    }
+
+    /// Takes the kept pbuf at this place, where it has no owner.
+    pub fn take(&mut self, kind: Kind, place: u32) -> Option<Owner>
+        requires there { place < length (counts_of kind self.old.kept) }
+        ensures found { IsSome result ↔ (rows_of self.old.kept (record { kind = kind; place = place }) ≡ 0) }
+        ensures owner { IfSome result (λ o. o ≡ Owner.Kept (record { kind = kind; place = place; adds = first_adds })) }
+        ensures owned { IfSome result (λ o. IsOwner self.new o) }
+        ensures rows { IfSome result (λ o. (s : Slot) → rows_of self.new.kept s ≡ rows_of self.old.kept s + row_of o s) }
+        ensures sizes { (k : Kind) → length (counts_of k self.new.kept) ≡ length (counts_of k self.old.kept) }
+        ensures some { self.new ≡ record self.old { kept = self.new.kept } }
+        ensures none { IsNone result → self.new ≡ self.old }
+    {
+        if self.kept.of(kind)[place as usize] != 0 {
+            return None;
+        }
+        self.kept.take(kind, place);
+        Some(Owner::Kept(Row {
+            kind,
+            place,
+            adds: FIRST_ADDS,
+        }))
+    }
+
+    /// Claims the pbuf of POOL at this place, whose count is atomic, where it has no owner.
+    pub fn claim(&mut self, place: u32) -> Option<Owner>
+        requires there { place < self.old.holder.table.words }
+        requires right { self.old.holder.rights ≡ 1 }
+        requires countable { self.old.makes.made + self.old.makes.refused < 2 ^ 64 - 1 }
+        requires few { self.old.claimed < 4095 }
+        ensures owner { IfSome result (λ o. o ≡ Owner.Counted (owner_of self.old.holder.table place first_adds claim_weight)) }
+        ensures owned { IfSome result (λ o. IsOwner self.new o) }
+        ensures some { IsSome result → self.new ≡ record self.old { holder = record self.old.holder { weight = self.old.holder.weight - claim_weight; got = place ∷ self.old.holder.got }; claimed = self.old.claimed + 1 } }
+        ensures none { IsNone result → IsInUse self.old.holder place self.new.holder }
+        ensures same { IsNone result → self.new ≡ record self.old { holder = self.new.holder } }
+    {
+        match self.counts.claim(&mut self.holder, place) {
+            Claim::Got(holder) => {
+                self.claimed += 1;
+                Some(Owner::Counted(holder))
+            }
+            Claim::InUse(_) => None,
+        }
+    }
+
+    /// Counts a make of POOL of so many octets that is made.
+    pub fn granted(&mut self, octets: u32)
+        requires { self.old.makes.made + self.old.makes.refused < 2 ^ 64 - 1 }
+        ensures { self.new ≡ record self.old { makes = record self.old.makes { made = self.old.makes.made + 1; asked = min (self.old.makes.asked + pbufs_of Kind.Pool octets) (2 ^ 64 - 1) }; claimed = 0 } }
+    {
+        self.makes.made += 1;
+        self.makes.asked = self.makes.asked.saturating_add(pool_pbufs(octets));
+        self.claimed = 0;
+    }
+
+    /// Counts one that is refused.
+    pub fn denied(&mut self, octets: u32)
+        requires { self.old.makes.made + self.old.makes.refused < 2 ^ 64 - 1 }
+        ensures { self.new ≡ record self.old { makes = record self.old.makes { refused = self.old.makes.refused + 1; last_refused = octets; asked = min (self.old.makes.asked + pbufs_of Kind.Pool octets) (2 ^ 64 - 1) }; claimed = 0 } }
+    {
+        self.makes.refused += 1;
+        self.makes.last_refused = octets;
+        self.makes.asked = self.makes.asked.saturating_add(pool_pbufs(octets));
+        self.claimed = 0;
+    }
+
+    /// Whether the count of the owner's pbuf has room for one owner more.
+    pub fn has_room(&self, owner: &Owner) -> bool
+        ensures { IsTrue result ↔ HasRoom self.now owner.now }
+    {
+        match owner {
+            Owner::Kept(row) => self.kept.count(row.kind, row.place) < u32::MAX,
+            Owner::Counted(_) => true,
+        }
+    }
+
+    /// A second owner of the same pbuf, with so many of the adds left.
+    pub fn share(&mut self, owner: &mut Owner, adds: u32) -> Owner
+        requires owner { IsOwner self.old owner.old }
+        requires room { HasRoom self.old owner.old }
+        requires enough { adds < adds_of owner.old }
+        ensures first { owner.new ≡ sharing adds owner.old }
+        ensures second { result ≡ share_of adds owner.old }
+        ensures sum { weight_of owner.new + weight_of result ≡ weight_of owner.old }
+        ensures first_owned { IsOwner self.new owner.new }
+        ensures second_owned { IsOwner self.new result }
+        ensures rows { (s : Slot) → rows_of self.new.kept s ≡ rows_of self.old.kept s + row_of result s }
+        ensures sizes { (k : Kind) → length (counts_of k self.new.kept) ≡ length (counts_of k self.old.kept) }
+        ensures same { self.new ≡ record self.old { kept = self.new.kept } }
+    {
+        match owner {
+            Owner::Kept(row) => {
+                self.kept.add(row.kind, row.place);
+                row.adds -= adds;
+                row.adds -= 1;
+                Owner::Kept(Row { adds, ..*row })
+            }
+            Owner::Counted(holder) => {
+                let Ok(()) = self.counts.add(holder) else {
+                    unreachable!()
+                };
+                Owner::Counted(self.counts.split(holder, adds))
+            }
+        }
+    }
+
+    /// Gives an owner up, and tells whether it was the pbuf's last.
+    pub fn give_up(&mut self, owner: Owner) -> bool
+        requires owner { IsOwner self.old owner }
+        ensures rows { (s : Slot) → rows_of self.new.kept s + row_of owner s ≡ rows_of self.old.kept s }
+        ensures weight { self.new.holder.weight ≡ self.old.holder.weight + weight_of owner }
+        ensures sizes { (k : Kind) → length (counts_of k self.new.kept) ≡ length (counts_of k self.old.kept) }
+        ensures gave { GaveUp self.old owner result self.new }
+        ensures ended { ended_at self.new ≡ ended_at self.old + (if result then 1 else 0) }
+    {
+        match owner {
+            Owner::Kept(row) => self.kept.give(row.kind, row.place),
+            Owner::Counted(mut holder) => {
+                let dropped = self.counts.drop_one(&mut holder);
+                self.counts.join(&mut self.holder, holder);
+                dropped == Dropped::Last
+            }
+        }
+    }
+}
+
+// How many pbufs had no owner when each was looked at.
+fn look_over(counts: &Counts, holder: &mut Holder) -> u32
+    requires own { holder.old.table ≡ counts.now }
+    ensures looks { IsLookedOver holder.old holder.new counts.now.words result }
+    ensures all { holder.old.weight ≡ whole → holder.old.owners ≡ 0 → result ≡ counts.now.words }
+{
+    let mut free = 0;
+    for i in 0..counts.len() {
+        free += u32::from(counts.look(holder, i) == 0);
+    }
+    free
+}
+
+// How many pbufs of POOL so many octets take.
+fn pool_pbufs(octets: u32) -> u64
+    ensures { result ≡ pbufs_of Kind.Pool octets }
+{
+    (u64::from(octets) + 511) / 512
+}

@@ -1,0 +1,73 @@
+use crate::{Free, PoolSeat};
+use lw_base::Limits;
+use lw_payload::Kind;
+use std::test::Fail;
+
+const SMALL: Limits = Limits {
+    ram: 8,
+    pool: 4,
+    rom: 4,
+    reference: 4,
+    mailbox: 2,
+    tcpip: 4,
+    descriptors: 8,
+    window: 5840,
+    live: 64,
+    ends: 128,
+    variables: 64,
+};
+
+const ALL: Free = Free {
+    ram: 8,
+    pool: 4,
+    rom: 4,
+    reference: 4,
+};
+
+#[test]
+fn a_kept_pbuf_is_taken_shared_and_given_up(rt: HostRuntime) -> Result<(), Fail> {
+    let mut seat = PoolSeat::new(rt.alloc(), &SMALL, false)?;
+    let Some(mut one) = seat.take(Kind::Ram, 3) else {
+        return Err(Fail::new("in use"));
+    };
+    assert!(rt; seat.take(Kind::Ram, 3).is_none());
+    assert!(rt; seat.has_room(&one));
+    let other = seat.share(&mut one, 15);
+    assert!(rt; seat.free() == Free { ram: 7, ..ALL });
+    assert!(rt; !seat.give_up(other));
+    assert!(rt; seat.give_up(one));
+    assert!(rt; seat.free() == ALL);
+    Ok(())
+}
+
+#[test]
+fn a_pbuf_of_pool_is_given_up_to_any_seat(rt: HostRuntime) -> Result<(), Fail> {
+    let mut core = PoolSeat::new(rt.alloc(), &SMALL, false)?;
+    let mut feeder = core.split(rt.alloc(), true)?;
+    let Some(mut one) = feeder.claim(1) else {
+        return Err(Fail::new("in use"));
+    };
+    feeder.granted(600);
+    assert!(rt; feeder.claim(1).is_none());
+    let other = feeder.share(&mut one, 0);
+    assert!(rt; core.free() == Free { pool: 3, ..ALL });
+    assert!(rt; !feeder.give_up(other));
+    assert!(rt; core.give_up(one));
+    core.join(feeder);
+    assert!(rt; core.free() == ALL);
+    Ok(())
+}
+
+#[test]
+fn alone_keeps_pool_too(rt: HostRuntime) -> Result<(), Fail> {
+    let mut seat = PoolSeat::new(rt.alloc(), &SMALL, true)?;
+    assert!(rt; seat.kept(Kind::Pool) == 4);
+    let Some(one) = seat.take(Kind::Pool, 0) else {
+        return Err(Fail::new("in use"));
+    };
+    assert!(rt; seat.free() == Free { pool: 3, ..ALL });
+    assert!(rt; seat.give_up(one));
+    seat.denied(3000);
+    assert!(rt; seat.free() == ALL);
+    Ok(())
+}
