@@ -137,14 +137,14 @@ fn an_entry_that_is_there_is_told_by_every_packet_of_its_address(
 fn a_full_table_gives_up_its_oldest_stable_entry(rt: HostRuntime) -> Result<(), Fail> {
     let mut table = looked_up(rt.alloc(), &[2, 3])?;
     pass(rt.alloc(), &mut table, 5)?;
-    for n in [4, 5] {
-        table.input(&packet(1, mac(n), host(n), OWN), OWN);
-    }
+    table.input(&packet(1, mac(4), host(4), OWN), OWN);
+    pass(rt.alloc(), &mut table, 1)?;
+    table.input(&packet(1, mac(5), host(5), OWN), OWN);
     for n in 6..12 {
         table.lookup(host(n));
     }
     assert_eq!(rt; hold(&rt, &mut table, host(2), 1), None);
-    // Of the two stable ones of age 0 the first goes, though a look at it is the last that happened.
+    // Host 4 is the older of the two that are stable, though it is the last that was looked up.
     assert_eq!(rt; table.lookup(host(4)), Next::Known(mac(4)));
     assert_eq!(rt; table.lookup(host(12)), Next::Ask(None));
     assert_eq!(rt;
@@ -152,7 +152,7 @@ fn a_full_table_gives_up_its_oldest_stable_entry(rt: HostRuntime) -> Result<(), 
         [2, 3, 5, 6, 7, 8, 9, 10, 11, 12].as_slice()
     );
     assert_eq!(rt; table.lookup(host(13)), Next::Ask(None));
-    // None is stable any more: the oldest pending one goes with its packet, and the next without one.
+    // None is stable any more: of the two oldest the first goes, with its packet, and then the other.
     assert_eq!(rt; table.lookup(host(14)), Next::Ask(Some(1)));
     let learnt = table.input(&packet(1, mac(15), host(15), OWN), OWN);
     assert_eq!(rt;
