@@ -1,0 +1,4 @@
+pub mod Positions
+pub mod Kept
+pub mod Runs
+pub mod Lists

@@ -1,0 +1,10 @@
+//! Payloads kept by the position of their octets until those before them are there.
+#![tactic(auto)]
+
+mod run;
+mod runs;
+#[cfg(test)]
+mod tests;
+
+pub use run::Run;
+pub use runs::Runs;
