@@ -1,4 +1,4 @@
-ghost use Rattle.std.specs.Prelude.{◌≡◌, ◌≢◌, ◌<◌, ◌≤◌, ◌++◌, [], IsErrOf, IfOk, OnOk, OnErr, length, slice_get};
+ghost use Rattle.std.specs.Prelude.{◌≡◌, ◌≢◌, ◌<◌, ◌≤◌, ◌++◌, [], IsErrOf, IfOk, OnOk, length, slice_get};
 ghost use Rattle.lw_netif.specs.Interface.{frames_left};
 ghost use Rattle.lw_netif.specs.Route.{IsOnSubnet, route_of};
 
@@ -16,12 +16,12 @@ pub struct Netif {
 }
 
 impl Model for Netif {
-    ghost use Rattle.std.specs.Prelude.{◌<◌, ◌^◌, length};
+    ghost use Rattle.std.specs.Prelude.{◌<◌, ◌-◌, ◌^◌, length, vec_capacity};
     ghost use Rattle.lw_netif.specs.Interface.{Interface};
 
     ghost Value = { Interface };
 
-    ghost view = { λ n. record { net = n.net; sent = n.frames.items } };
+    ghost view = { λ n. record { net = n.net; sent = n.frames.items; room = vec_capacity n.frames - length n.frames.items } };
 
     ghost invariant = { λ n. length n.frames.items < 2 ^ 32 };
 }
@@ -88,15 +88,26 @@ impl Netif {
         u32::MAX - self.sent()
     }
 
-    /// Sends frames, no more than may still be sent; the interface keeps copies of them.
-    pub fn send(&mut self, alloc: Global, frames: &[Octets]) -> Result<(), NoMemory>
-        requires { length frames.now ≤ frames_left self.old.sent }
+    /// Copies frames that are to be sent, and makes room for the copies.
+    pub fn ready(&mut self, alloc: Global, frames: &[Octets]) -> Result<Vec<Octets>, NoMemory>
         ensures net { self.new.net ≡ self.old.net }
-        ensures ok { OnOk result (self.new.sent ≡ self.old.sent ++ frames.now) }
-        ensures err { OnErr result (self.new.sent ≡ self.old.sent) }
+        ensures sent { self.new.sent ≡ self.old.sent }
+        ensures copies { IfOk result (λ copies. copies.items ≡ frames.now) }
+        ensures room { OnOk result (length frames.now ≤ self.new.room) }
     {
-        let mut copies = copies(alloc, frames)?;
-        self.frames.append(&mut copies)
+        let copies = copies(alloc, frames)?;
+        self.frames.reserve(copies.len())?;
+        Ok(copies)
+    }
+
+    /// Sends frames, no more than may still be sent. Takes no memory, since it needs the room.
+    pub fn send(&mut self, mut frames: Vec<Octets>)
+        requires few { length frames.items ≤ frames_left self.old.sent }
+        requires room { length frames.items ≤ self.old.room }
+        ensures net { self.new.net ≡ self.old.net }
+        ensures sent { self.new.sent ≡ self.old.sent ++ frames.items }
+    {
+        self.frames.append(&mut frames).unwrap();
     }
 }
 

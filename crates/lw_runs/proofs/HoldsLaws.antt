@@ -23,10 +23,11 @@ Holds-then seen ps qs rs a b = record {
   short = λ all. b.short (a.short all);
 }
 
-All-front : {P : Type 0} (Q : P → Type 0) (ps qs : List P) → All Q (ps ++ qs) → All Q ps
+-- what holds of each of joined lists holds of each of the first, and of the second
+pub All-front : {P : Type 0} (Q : P → Type 0) (ps qs : List P) → All Q (ps ++ qs) → All Q ps
 All-front Q ps qs all = All-same Q ps _ (sym (take_at ps qs (length ps) refl)) (All-take Q (length ps) (ps ++ qs) all)
 
-All-back : {P : Type 0} (Q : P → Type 0) (ps qs : List P) → All Q (ps ++ qs) → All Q qs
+pub All-back : {P : Type 0} (Q : P → Type 0) (ps qs : List P) → All Q (ps ++ qs) → All Q qs
 All-back Q ps qs all = All-same Q qs _ (sym (drop_at ps qs (length ps) refl)) (All-drop Q (length ps) (ps ++ qs) all)
 
 -- side by side

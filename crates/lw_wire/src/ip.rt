@@ -87,8 +87,9 @@ pub fn write_ip(head: &IpHead, body: &[u8], out: &mut Vec<u8>) -> Result<(), NoM
     append(&ip_octets(head), body, out)
 }
 
+/// The octets of a header without options, with a right sum, whatever its total length counts.
 #[tactic(auto, unfolding(crate::specs::Ip::ip_spelling))]
-fn ip_octets(head: &IpHead) -> [u8; 20]
+pub fn ip_octets(head: &IpHead) -> [u8; 20]
     requires { head.now.offset ≤ 65528 }
     ensures { result ≡ ip_spelling head.now }
 {

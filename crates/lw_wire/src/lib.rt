@@ -20,6 +20,6 @@ pub use checksum::sum16;
 pub use eth::{read_eth, write_eth};
 pub use fault::WireFault;
 pub use icmp::{read_icmp, write_icmp};
-pub use ip::{read_ip, write_ip};
+pub use ip::{ip_octets, read_ip, write_ip};
 pub use std::alloc::AllocError as NoMemory;
 pub use udp::{read_udp, write_udp};

@@ -1,4 +1,5 @@
-use Rattle.std.proofs.Common.{◌≡◌, length, ap, ◌∙◌, arith}
+use Rattle.std.proofs.Common.{◌≡◌, length, ap, ◌∙◌, sym, arith}
+use Rattle.std.proofs.lemmas.List.{length-map}
 use Rattle.lw_runs.proofs.RunsLaws.{few_runs}
 use Rattle.lw_runs.proofs.runs.Runs.len.Goals as goal
 

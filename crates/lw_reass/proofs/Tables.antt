@@ -1,0 +1,142 @@
+use Rattle.std.proofs.Common.{◌≡◌, ℕ, zero, suc, ◌<◌, ◌≤◌, Bool, true, false, List, [], ◌∷◌, ◌++◌, map, length, get_or, set, take, drop, remove, Option, slice_set, refl, sym, ap, ◌∙◌, subst, arith, append_assoc}
+use Rattle.std.specs.Option.{unwrap_or}
+use Rattle.std.specs.List.{All, sum_by}
+use Rattle.std.proofs.lemmas.List.{map-append, take-map, drop-map, map-set, get_or-map}
+use Rattle.std.proofs.lemmas.List.Sums.{sum_by-append}
+use Rattle.std.proofs.lemmas.List.Concat.{flat_map-append}
+use Rattle.std.proofs.lemmas.List.Elements.{All-append, All-take, All-drop, All-weaker, All-set}
+use Rattle.lw_base.specs.declared.heads.IpHead.{IpHead}
+use Rattle.lw_payload.specs.Views.{View}
+use Rattle.lw_runs.specs.Positions.{with_octets, octets_in}
+use Rattle.lw_runs.specs.Kept.{Holds, parts_of}
+use Rattle.lw_runs.proofs.Spreads.{length-with}
+use Rattle.lw_runs.proofs.HoldsLaws.{Holds-then, Holds-front, Holds-back, Holds-swap, All-front, All-back}
+use Rattle.lw_reass.specs.Datagrams.{Datagram, Added, put_at, with_fragment, is_whole, opened, head_with}
+use Rattle.lw_reass.specs.Opens.{datagram, bodies_in, IsOpen, the_datagram, IsWithin}
+use Rattle.lw_reass.specs.declared.datagram.Open.{Open}
+use Rattle.lw_reass.specs.declared.outcome.Outcome.TheVariants.{Whole, Kept}
+use Rattle.lw_reass.proofs.Wholes.{Fitting, within_with}
+
+-- the datagram at a place is that of the element there
+pub datagram_at : {P H : Type 0} (os : List (Open P H)) (i : ℕ) (o : Open P H) (h : IpHead) → i < length os → o ≡ get_or os i o → the_datagram os i h ≡ datagram o
+datagram_at os i o h more is = get_or-map datagram os i o (opened h) more ∙ ap datagram (sym is)
+
+-- the payloads before a place, at it, and behind it
+pub split_bodies : {P H : Type 0} (os : List (Open P H)) (i : ℕ) (o : Open P H) → i < length os → o ≡ get_or os i o → bodies_in os ≡ bodies_in (take i os) ++ (o.runs.bodies ++ bodies_in (drop (suc i) os))
+split_bodies [] i o more is = absurd (omega arith)
+split_bodies (x ∷ os) zero o more is = rw is refl
+split_bodies (x ∷ os) (suc i) o more is = ap (λ ps. x.runs.bodies ++ ps) (split_bodies os i o (omega arith) is) ∙ sym (append_assoc x.runs.bodies (bodies_in (take i os)) (o.runs.bodies ++ bodies_in (drop (suc i) os)))
+
+pub set_bodies : {P H : Type 0} (os : List (Open P H)) (i : ℕ) (o : Open P H) → i < length os → bodies_in (set os i o) ≡ bodies_in (take i os) ++ (o.runs.bodies ++ bodies_in (drop (suc i) os))
+set_bodies [] i o more = absurd (omega arith)
+set_bodies (x ∷ os) zero o more = refl
+set_bodies (x ∷ os) (suc i) o more = ap (λ ps. x.runs.bodies ++ ps) (set_bodies os i o (omega arith)) ∙ sym (append_assoc x.runs.bodies (bodies_in (take i os)) (o.runs.bodies ++ bodies_in (drop (suc i) os)))
+
+pub removed_bodies : {P H : Type 0} (os : List (Open P H)) (i : ℕ) → bodies_in (remove os i) ≡ bodies_in (take i os) ++ bodies_in (drop (suc i) os)
+removed_bodies os i = flat_map-append (λ o. o.runs.bodies) (take i os) (drop (suc i) os)
+
+-- one payload more among those at a place
+pub holds_within : {P : Type 0} (seen : P → View) (body : P) (front here new back : List P) → Holds seen (body ∷ here) new → Holds seen (body ∷ (front ++ (here ++ back))) (front ++ (new ++ back))
+holds_within {P} seen body front here new back holds =
+    let moved : Holds seen ((body ∷ []) ++ front ++ (here ++ back)) (front ++ (body ∷ []) ++ (here ++ back)) = Holds-front seen ((body ∷ []) ++ front) (front ++ (body ∷ [])) (here ++ back) (Holds-swap seen (body ∷ []) front) in
+    let there : Holds seen (front ++ ((body ∷ here) ++ back)) (front ++ (new ++ back)) = Holds-back seen front ((body ∷ here) ++ back) (new ++ back) (Holds-front seen (body ∷ here) new back holds) in
+    let joined : front ++ (body ∷ []) ++ (here ++ back) ≡ front ++ ((body ∷ here) ++ back) = append_assoc front (body ∷ []) (here ++ back) in
+    Holds-then seen _ _ _ moved (subst (λ (ps : List P). Holds seen ps (front ++ (new ++ back))) (sym joined) there)
+
+-- a payload at a place given out
+pub holds_out : {P : Type 0} (seen : P → View) (all : P) (front back : List P) → Holds seen (front ++ ((all ∷ []) ++ back)) (all ∷ (front ++ back))
+holds_out {P} seen all front back =
+    let moved : Holds seen (front ++ (all ∷ []) ++ back) ((all ∷ []) ++ front ++ back) = Holds-front seen (front ++ (all ∷ [])) ((all ∷ []) ++ front) back (Holds-swap seen front (all ∷ [])) in
+    subst (λ (ps : List P). Holds seen ps (all ∷ (front ++ back))) (append_assoc front (all ∷ []) back) moved
+
+-- what holds of all payloads holds of those of one datagram
+pub here_all : {P H : Type 0} (Q : P → Type 0) (os : List (Open P H)) (i : ℕ) (o : Open P H) → i < length os → o ≡ get_or os i o → All Q (bodies_in os) → All Q o.runs.bodies
+here_all {P} Q os i o more is all =
+    let split : All Q (bodies_in (take i os) ++ (o.runs.bodies ++ bodies_in (drop (suc i) os))) = subst (λ (ps : List P). All Q ps) (split_bodies os i o more is) all in
+    All-front Q o.runs.bodies (bodies_in (drop (suc i) os)) (All-back Q (bodies_in (take i os)) (o.runs.bodies ++ bodies_in (drop (suc i) os)) split)
+
+-- and the parts are no more
+pub here_parts : {P H : Type 0} (seen : P → View) (os : List (Open P H)) (i : ℕ) (o : Open P H) → i < length os → o ≡ get_or os i o → parts_of seen o.runs.bodies ≤ parts_of seen (bodies_in os)
+here_parts seen os i o more is =
+    let f = λ (p : _). (seen p).parts in
+    let e = ap (sum_by f) (split_bodies os i o more is) in
+    let a = sum_by-append f (bodies_in (take i os)) (o.runs.bodies ++ bodies_in (drop (suc i) os)) in
+    let b = sum_by-append f o.runs.bodies (bodies_in (drop (suc i) os)) in
+    omega arith
+
+-- a datagram less
+pub map-remove : {X Y : Type 0} (f : X → Y) (xs : List X) (i : ℕ) → map f (remove xs i) ≡ remove (map f xs) i
+map-remove f xs i = map-append f (take i xs) (drop (suc i) xs) ∙ rw (take-map f i xs, drop-map f (suc i) xs) refl
+
+pub removed_all : {X : Type 0} (Q : X → Type 0) (xs : List X) (i : ℕ) → All Q xs → All Q (remove xs i)
+removed_all Q xs i all = All-append Q (take i xs) (drop (suc i) xs) (All-take Q i xs all) (All-drop Q (suc i) xs all)
+
+-- a datagram with room for some parts has room for none
+pub less_room : {P H : Type 0} (os : List (Open P H)) (n : ℕ) → All (λ o. IsOpen o n) os → All (λ o. IsOpen o 0) os
+less_room os n all = All-weaker (λ o. IsOpen o n) (λ o. IsOpen o 0) (λ o is. record { young = is.young; short = is.short; within = is.within; place = omega arith }) os all
+
+-- it is open still after a fragment that fits
+pub open_with : {P H : Type 0} (o new : Open P H) (h : IpHead) (n : ℕ) (xs : List ℕ) → IsOpen o n → Fitting (datagram o) h (length xs) → datagram new ≡ with_fragment (datagram o) h xs → IsOpen new 0
+open_with o new h n xs is fit e =
+    let reach = length-with o.runs.octets h.offset xs in
+    let octets : new.runs.octets ≡ with_octets o.runs.octets h.offset xs = ap (λ (d : Datagram). d.octets) e in
+    let age : new.age ≡ o.age = ap (λ (d : Datagram). d.age) e in
+    record {
+      young = let y = is.young in omega arith;
+      short = let s = is.short in let t = fit.short in let l = ap length octets in omega arith;
+      within = subst (λ (d : Datagram). IsWithin d.end d.octets) (sym e) (within_with (datagram o) h (length xs) xs refl is.within fit);
+      place = omega arith;
+    }
+
+-- what a fragment makes of the datagrams, where its datagram isn't whole, and where it is
+pub put_kept : (ds : List Datagram) (i : ℕ) (d : Datagram) (h : IpHead) → is_whole d ≡ false → put_at ds i d h ≡ record { datagrams = slice_set ds i d; outcome = Kept }
+put_kept ds i d h e = rw e refl
+
+pub put_whole : (ds : List Datagram) (i : ℕ) (d : Datagram) (h : IpHead) → is_whole d ≡ true → put_at ds i d h ≡ record { datagrams = remove ds i; outcome = Whole (unwrap_or d.head h) (octets_in d.octets) }
+put_whole ds i d h e = rw e refl
+
+-- whether the datagram at a place would be whole
+pub whole_at : {P H : Type 0} (os : List (Open P H)) (i : ℕ) (o : Open P H) (h : IpHead) (xs : List ℕ) (r b : Bool) → i < length os → o ≡ get_or os i o → r ≡ is_whole (with_fragment (datagram o) h xs) → r ≡ b → is_whole (with_fragment (the_datagram os i h) h xs) ≡ b
+whole_at os i o h xs r b more is e f = ap (λ d. is_whole (with_fragment d h xs)) (datagram_at os i o h more is) ∙ sym e ∙ f
+
+-- a fragment is kept
+pub kept_datagrams : {P H : Type 0} (os : List (Open P H)) (i : ℕ) (o new : Open P H) (h : IpHead) (xs : List ℕ) → i < length os → o ≡ get_or os i o → datagram new ≡ with_fragment (datagram o) h xs → is_whole (with_fragment (the_datagram os i h) h xs) ≡ false
+    → map datagram (set os i new) ≡ (put_at (map datagram os) i (with_fragment (the_datagram os i h) h xs) h).datagrams
+kept_datagrams os i o new h xs more is e never =
+    map-set datagram os i new ∙ ap (λ d. slice_set (map datagram os) i d) (e ∙ ap (λ d. with_fragment d h xs) (sym (datagram_at os i o h more is)))
+    ∙ sym (ap (λ (a : Added). a.datagrams) (put_kept (map datagram os) i (with_fragment (the_datagram os i h) h xs) h never))
+
+pub kept_bodies : {P H : Type 0} (seen : P → View) (os : List (Open P H)) (i : ℕ) (o new : Open P H) (body : P) → i < length os → o ≡ get_or os i o → Holds seen (body ∷ o.runs.bodies) new.runs.bodies → Holds seen (body ∷ bodies_in os) (bodies_in (set os i new))
+kept_bodies {P} seen os i o new body more is holds =
+    subst (λ (ps : List P). Holds seen (body ∷ ps) (bodies_in (set os i new))) (sym (split_bodies os i o more is))
+    (subst (λ (ps : List P). Holds seen (body ∷ (bodies_in (take i os) ++ (o.runs.bodies ++ bodies_in (drop (suc i) os)))) ps) (sym (set_bodies os i new more))
+    (holds_within seen body (bodies_in (take i os)) o.runs.bodies new.runs.bodies (bodies_in (drop (suc i) os)) holds))
+
+pub kept_each : {P H : Type 0} (os : List (Open P H)) (i n : ℕ) (o new : Open P H) (h : IpHead) (xs : List ℕ) → i < length os → o ≡ get_or os i o → All (λ x. IsOpen x n) os → Fitting (the_datagram os i h) h (length xs) → datagram new ≡ with_fragment (datagram o) h xs → All (λ x. IsOpen x 0) (set os i new)
+kept_each {P} {H} os i n o new h xs more is all fit e =
+    let open_there : IsOpen o n = subst (λ (x : Open P H). IsOpen x n) (sym is) (all i o more) in
+    let fit_there : Fitting (datagram o) h (length xs) = subst (λ (d : Datagram). Fitting d h (length xs)) (datagram_at os i o h more is) fit in
+    All-set (λ x. IsOpen x 0) os i new (open_with o new h n xs open_there fit_there e) (less_room os n all)
+
+-- a datagram is whole
+pub whole_datagrams : {P H : Type 0} (os left : List (Open P H)) (i : ℕ) (h : IpHead) (xs : List ℕ) → left ≡ remove os i → is_whole (with_fragment (the_datagram os i h) h xs) ≡ true → map datagram left ≡ (put_at (map datagram os) i (with_fragment (the_datagram os i h) h xs) h).datagrams
+whole_datagrams os left i h xs e whole =
+    ap (λ ys. map datagram ys) e ∙ map-remove datagram os i ∙ sym (ap (λ (a : Added). a.datagrams) (put_whole (map datagram os) i (with_fragment (the_datagram os i h) h xs) h whole))
+
+pub whole_outcome : {P H : Type 0} (os : List (Open P H)) (i : ℕ) (o : Open P H) (h head : IpHead) (found : Option IpHead) (xs octets : List ℕ) → i < length os → o ≡ get_or os i o → is_whole (with_fragment (the_datagram os i h) h xs) ≡ true
+    → found ≡ head_with o.head h → head ≡ unwrap_or found h → octets ≡ octets_in (with_octets o.runs.octets h.offset xs) → Whole head octets ≡ (put_at (map datagram os) i (with_fragment (the_datagram os i h) h xs) h).outcome
+whole_outcome os i o h head found xs octets more is whole e f g =
+    rw (f, e, g) (sym (ap (λ (d : Datagram). Whole (unwrap_or (with_fragment d h xs).head h) (octets_in (with_fragment d h xs).octets)) (datagram_at os i o h more is)))
+    ∙ sym (ap (λ (a : Added). a.outcome) (put_whole (map datagram os) i (with_fragment (the_datagram os i h) h xs) h whole))
+
+pub whole_bodies : {P H : Type 0} (seen : P → View) (os left : List (Open P H)) (i : ℕ) (o : Open P H) (body all : P) → i < length os → o ≡ get_or os i o → left ≡ remove os i → Holds seen (body ∷ o.runs.bodies) (all ∷ []) → Holds seen (body ∷ bodies_in os) (all ∷ bodies_in left)
+whole_bodies {P} {H} seen os left i o body all more is e holds =
+    let front = bodies_in (take i os) in
+    let back = bodies_in (drop (suc i) os) in
+    let kept : bodies_in left ≡ front ++ back = ap (λ (x : List (Open P H)). bodies_in x) e ∙ removed_bodies os i in
+    let there : Holds seen (body ∷ (front ++ (o.runs.bodies ++ back))) (all ∷ (front ++ back)) =
+    Holds-then seen _ _ _ (holds_within seen body front o.runs.bodies (all ∷ []) back holds) (holds_out seen all front back) in
+    subst (λ (ps : List P). Holds seen (body ∷ ps) (all ∷ bodies_in left)) (sym (split_bodies os i o more is)) (subst (λ (ps : List P). Holds seen (body ∷ (front ++ (o.runs.bodies ++ back))) (all ∷ ps)) (sym kept) there)
+
+pub whole_each : {P H : Type 0} (os left : List (Open P H)) (i n : ℕ) → left ≡ remove os i → All (λ x. IsOpen x n) os → All (λ x. IsOpen x 0) left
+whole_each {P} {H} os left i n e all = subst (λ (xs : List (Open P H)). All (λ x. IsOpen x 0) xs) (sym e) (removed_all (λ x. IsOpen x 0) os i (less_room os n all))

@@ -1,0 +1,101 @@
+use Rattle.std.proofs.Common.{◌≡◌, ℕ, ◌+◌, ◌%◌, ◌<◌, ◌≤◌, Bool, true, false, not, ◌||◌, ◌&&◌, ◌==◌, nat_lt, nat_le, nat_eq, List, [], ◌∷◌, length, take, Option, Some, None, is_some, if◌then◌else◌, refl, ap, ◌∙◌, subst, arith, inl, inr}
+use Rattle.std.specs.List.{list_all}
+use Rattle.std.proofs.lemmas.Bool.{cases_lt}
+use Rattle.std.proofs.lemmas.Bool.Decides.{nat_tests}
+use Rattle.std.proofs.lemmas.List.{take_all}
+use Rattle.lw_base.specs.declared.heads.IpHead.{IpHead}
+use Rattle.lw_runs.specs.Positions.{with_octets, overlaps, octets_in}
+use Rattle.lw_runs.proofs.Spreads.{count_with, length-with}
+use Rattle.lw_reass.specs.Datagrams.{Datagram, fits, ends_behind, end_with, is_filled, is_whole, with_fragment}
+use Rattle.lw_reass.specs.Opens.{IsWithin}
+
+both : (a b : Bool) → (a && b) ≡ true → (a ≡ true) × (b ≡ true)
+both true b e = (refl, e)
+both false b e = absurd (let f = e in cc)
+
+-- a fragment that fits
+pub record Fitting (d : Datagram) (h : IpHead) (n : ℕ) : Type 0 where
+  pub short : h.offset + n ≤ 65535
+  pub some : 0 < n
+  pub behind : ends_behind d.end (h.offset + n) ≡ true
+  pub last : (h.mf || nat_le (length d.octets) (h.offset + n)) ≡ true
+
+pub fitting : (d : Datagram) (h : IpHead) (n : ℕ) → fits d h n ≡ true → Fitting d h n
+fitting d h n e =
+    let a = nat_le (h.offset + n) 65535 in
+    let b = nat_lt 0 n in
+    let m = not h.mf || (n % 8 == 0) in
+    let r = ends_behind d.end (h.offset + n) in
+    let l = h.mf || nat_le (length d.octets) (h.offset + n) in
+    let one = both (a && b && m && r) l e in
+    let two = both (a && b && m) r one.0 in
+    let three = both (a && b) m two.0 in
+    let four = both a b three.0 in
+    let short = four.0 in
+    let some = four.1 in
+    record { short = grind (arith, nat_tests); some = grind (arith, nat_tests); behind = two.1; last = one.1 }
+
+-- octets that are there are no more than positions; as many only where all are there
+count_all : (octets : List (Option ℕ)) → (length (octets_in octets) ≤ length octets) × ((length (octets_in octets) ≡ length octets) → list_all is_some octets ≡ true) × (list_all is_some octets ≡ true → length (octets_in octets) ≡ length octets)
+count_all [] = (omega arith, λ e. refl, λ e. refl)
+count_all (None ∷ xs) = let rest = count_all xs in let less = rest.0 in (omega arith, λ e. absurd (omega arith), λ e. absurd (let f = e in cc))
+count_all (Some x ∷ xs) = let rest = count_all xs in let less = rest.0 in (omega arith, λ e. rest.1 (omega arith), λ e. let f = rest.2 e in omega arith)
+
+decided : (b : Bool) → (b ≡ true → ⊥) → b ≡ false
+decided true never = absurd (never refl)
+decided false never = refl
+
+-- octets of which none is behind the end are all there exactly where they are as many as the end
+pub filled_count : (octets : List (Option ℕ)) (e : ℕ) → length octets ≤ e → is_filled (Some e) octets ≡ nat_eq e (length (octets_in octets))
+filled_count octets e within =
+    let all = count_all octets in
+    let least = all.0 in
+    let cut : take e octets ≡ octets = take_all e octets within in
+    elim (cases_lt (length (octets_in octets)) e) [
+      | inl less ↦
+          let never : nat_eq e (length (octets_in octets)) ≡ false = grind (arith, nat_tests) in
+          elim (cases_lt (length octets) e) [
+            | inl gap ↦
+                let short : nat_le e (length octets) ≡ false = grind (arith, nat_tests) in
+                rw (short, never) refl
+            | inr full ↦
+                let long : nat_le e (length octets) ≡ true = grind (arith, nat_tests) in
+                rw (long, cut, never) (missing_one octets (λ f. let g = all.2 f in absurd (omega arith)))
+          ]
+      | inr full ↦
+          let same : nat_eq e (length (octets_in octets)) ≡ true = grind (arith, nat_tests) in
+          let long : nat_le e (length octets) ≡ true = grind (arith, nat_tests) in
+          rw (long, cut, same) (all.1 (omega arith))
+    ]
+  where
+    missing_one : (xs : List (Option ℕ)) → (list_all is_some xs ≡ true → ⊥) → list_all is_some xs ≡ false
+    missing_one xs never = decided (list_all is_some xs) never
+
+-- no octet is behind the end after a fragment that fits
+pub within_with : (d : Datagram) (h : IpHead) (n : ℕ) (xs : List ℕ) → length xs ≡ n → IsWithin d.end d.octets → Fitting d h n → IsWithin (end_with d.end h n) (with_octets d.octets h.offset xs)
+within_with d h n xs size within fit = within_cases h.mf d.end within fit.behind fit.last
+  where
+    within_cases : (mf : Bool) (end : Option ℕ) → IsWithin end d.octets → ends_behind end (h.offset + n) ≡ true → (mf || nat_le (length d.octets) (h.offset + n)) ≡ true → IsWithin (if mf then end else Some (h.offset + n)) (with_octets d.octets h.offset xs)
+    within_cases true None within behind last = tt
+    within_cases true (Some e) within behind last = let l = length-with d.octets h.offset xs in let b : h.offset + n ≤ e = grind (arith, nat_tests) in omega arith
+    within_cases false end within behind last = let l = length-with d.octets h.offset xs in let b : length d.octets ≤ h.offset + n = grind (arith, nat_tests) in omega arith
+
+-- it would be whole with a fragment exactly where its octets are as many as its end
+pub whole_count : (d : Datagram) (h : IpHead) (n : ℕ) (xs : List ℕ) (e : ℕ) → length xs ≡ n → IsWithin d.end d.octets → Fitting d h n → overlaps d.octets h.offset n ≡ false → end_with d.end h n ≡ Some e
+    → is_whole (with_fragment d h xs) ≡ nat_eq e (length (octets_in d.octets) + n)
+whole_count d h n xs e size within fit free end =
+    let same : end_with d.end h (length xs) ≡ Some e = rw size end in
+    let fits_in : IsWithin (Some e) (with_octets d.octets h.offset xs) = subst (λ (x : Option ℕ). IsWithin x (with_octets d.octets h.offset xs)) end (within_with d h n xs size within fit) in
+    let count : length (octets_in (with_octets d.octets h.offset xs)) ≡ length (octets_in d.octets) + length xs = count_with d.octets h.offset xs (rw size free) in
+    rw same (filled_count (with_octets d.octets h.offset xs) e fits_in ∙ rw (count, size) refl)
+
+pub whole_never : (d : Datagram) (h : IpHead) (n : ℕ) (xs : List ℕ) → length xs ≡ n → end_with d.end h n ≡ None → is_whole (with_fragment d h xs) ≡ false
+whole_never d h n xs size end = let same : end_with d.end h (length xs) ≡ None = rw size end in rw same refl
+
+-- a datagram has at most 65,535 octets after a fragment that fits
+pub whole_short : (octets : List (Option ℕ)) (from : ℕ) (xs out : List ℕ) → out ≡ octets_in (with_octets octets from xs) → length octets ≤ 65535 → from + length xs ≤ 65535 → length out ≤ 65535
+whole_short octets from xs out e short fit =
+    let count = (count_all (with_octets octets from xs)).0 in
+    let reach = length-with octets from xs in
+    let l = ap length e in
+    omega arith

@@ -1,0 +1,3 @@
+pub mod Datagrams
+pub mod Table
+pub mod Opens

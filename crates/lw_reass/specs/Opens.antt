@@ -1,0 +1,38 @@
+use Rattle.std.specs.Prelude.{◌≡◌, ℕ, ◌<◌, ◌≤◌, List, [], map, length, flat_map, Option, IfSome, slice_index_or}
+use Rattle.std.specs.List.{All}
+use Rattle.lw_base.specs.declared.heads.IpHead.{IpHead}
+use Rattle.lw_runs.specs.Kept.{Kept}
+use Rattle.lw_reass.specs.Datagrams.{Datagram, opened}
+use Rattle.lw_reass.specs.declared.datagram.Open.{Open}
+
+-- an open datagram as contracts see it
+abbrev pub datagram : {P H : Type 0} → Open P H → Datagram
+datagram o = record { key = o.key; age = o.age; octets = o.runs.octets; end = o.end; head = o.head }
+
+-- the payloads of open datagrams
+abbrev pub bodies_in : {P H : Type 0} → List (Open P H) → List P
+bodies_in os = flat_map (λ o. o.runs.bodies) os
+
+-- no octet is there behind the end, where that is known
+abbrev pub IsWithin : Option ℕ → List (Option ℕ) → Type 0
+IsWithin end octets = IfSome end (λ e. length octets ≤ e)
+
+-- an open datagram is younger than 60 ticks, reaches no farther than its end and 65,535, and has room for so many parts
+pub record IsOpen {P H : Type 0} (o : Open P H) (room : ℕ) : Type 0 where
+  pub young : o.age < 60
+  pub short : length o.runs.octets ≤ 65535
+  pub within : IsWithin o.end o.runs.octets
+  pub place : room ≤ o.runs.room
+
+-- what holds of the fields of `Reass`
+pub record AreOpen {P H : Type 0} (opens : List (Open P H)) (spare : Kept P) (capacity room : ℕ) : Type 0 where
+  pub few : length opens ≤ 5
+  pub each : All (λ o. IsOpen o room) opens
+  pub empty : spare.octets ≡ []
+  pub none : spare.bodies ≡ []
+  pub spare_room : room ≤ spare.room
+  pub place : 5 ≤ capacity
+
+-- the datagram at a place
+abbrev pub the_datagram : {P H : Type 0} → List (Open P H) → ℕ → IpHead → Datagram
+the_datagram os i h = slice_index_or (map datagram os) i (opened h)
