@@ -43,10 +43,10 @@ abbrev pub GaveUp : SeatSeen → Owner → Bool → SeatSeen → Type 0
 GaveUp seat (Kept r) last seat' = ((last ≡ true) ↔ (rows_of seat'.kept (slot_of r) ≡ 0)) × (seat' ≡ record seat { kept = seat'.kept })
 GaveUp seat (Counted h) last seat' = TakesBack seat.holder h last seat'.holder × (seat' ≡ record seat { holder = seat'.holder })
 
--- whether there is room for one owner more in the count of a kept pbuf; an atomic count has room wherever adds are left
-abbrev pub HasRoom : SeatSeen → Owner → Type 0
-HasRoom seat (Kept r) = rows_of seat.kept (slot_of r) + 1 < 2 ^ 32
-HasRoom seat (Counted h) = Unit {0}
+-- there is room for so many owners more in the count of a kept pbuf; an atomic count has room wherever adds are left
+abbrev pub HasRoom : ℕ → SeatSeen → Owner → Type 0
+HasRoom more seat (Kept r) = rows_of seat.kept (slot_of r) + more < 2 ^ 32
+HasRoom more seat (Counted h) = Unit {0}
 
 -- what an owner is once it was shared, and so many of its adds were handed on
 abbrev pub sharing : ℕ → Owner → Owner

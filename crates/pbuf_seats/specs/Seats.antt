@@ -36,9 +36,9 @@ pub record IsLookedOver (h k : Known) (m n : ℕ) : Type 0 where
   pub found : k ≡ record h { found = after_looks 0 counts h.found }
   pub free : n ≡ free_count counts
 
--- the weight that is set aside for one make, 2 ^ 28: that of 4,096 claims
+-- the weight that is set aside for one make, 2 ^ 36: that of 2 ^ 20 claims
 abbrev pub make_weight : ℕ
-make_weight = 268435456
+make_weight = 68719476736
 
 -- A seat's holder is of its counts, owns nothing, and weighs enough for all splits and makes to come
 pub record IsSeat (counts : TableId) (seat : SeatSeen) : Type 0 where
@@ -46,7 +46,7 @@ pub record IsSeat (counts : TableId) (seat : SeatSeen) : Type 0 where
   pub idle : seat.holder.owners ≡ 0
   pub few : seat.makes.made + seat.makes.refused < 2 ^ 64
   pub stocked : seat.splits * part_weight + (2 ^ 64 - (seat.makes.made + seat.makes.refused)) * make_weight ≤ seat.holder.weight + seat.claimed * claim_weight
-  pub claims : seat.claimed < 4096
+  pub claims : seat.claimed < 2 ^ 20
 
 -- The claim of a pbuf found that it is in use: its count was n, and the right to claim has claimed it before
 abbrev pub IsInUse : Known → ℕ → Known → Type 0

@@ -73,6 +73,7 @@ impl Kept {
         requires free { rows_of self.old (record { kind = kind; place = place }) ≡ 0 }
         ensures owned { rows_of self.new (record { kind = kind; place = place }) ≡ 1 }
         ensures rows { (s : Slot) → rows_of self.new s ≡ rows_of self.old s + row_at kind place s }
+        ensures free { free_count (counts_of kind self.new) + 1 ≡ free_count (counts_of kind self.old) }
         ensures sizes { (k : Kind) → length (counts_of k self.new) ≡ length (counts_of k self.old) }
     {
         match kind {
@@ -141,7 +142,8 @@ fn add(counts: &mut [u32], place: u32)
 fn take(counts: &mut [u32], place: u32)
     requires there { place < length counts.old }
     requires free { slice_index counts.old place ≡ 0 }
-    ensures { counts.new ≡ slice_set counts.old place 1 }
+    ensures counts { counts.new ≡ slice_set counts.old place 1 }
+    ensures free { count_by (λ n. n == 0) counts.new + 1 ≡ count_by (λ n. n == 0) counts.old }
 {
     counts[place as usize] = 1;
 }

@@ -2,10 +2,12 @@
 //! A pbuf of a kept kind has its count of owners as a plain number in the first seat. The others, of POOL, have atomic counts that all seats share.
 #![tactic(auto)]
 
+mod hints;
 mod kept;
 mod makes;
 mod owner;
 mod seat;
+mod spare;
 #[cfg(test)]
 mod tests;
 

@@ -1,5 +1,6 @@
 //! A seat: what pbufs are taken from, and given up to.
 ghost use Rattle.std.specs.Prelude.{◌≡◌, ℕ, ◌+◌, ◌-◌, ◌^◌, ◌<◌, ◌≤◌, [], true, false, length, replicate, ◌∷◌, ◌↔◌, min, if◌then◌else◌, IsTrue, IsSome, IsNone, IfSome, IfOk, OnErr};
+ghost use Rattle.std.specs.Arc.{arc_value};
 ghost use Rattle.lw_payload.specs.Views.{Slot, pbufs_of};
 ghost use Rattle.lw_payload.specs.declared.kinds.Kind.{Kind};
 ghost use Rattle.pbuf_counts.specs.Owners.{whole, claim_weight, first_adds};
@@ -10,9 +11,11 @@ ghost use Rattle.pbuf_seats.specs.Seats.{IsParted, joined, IsLookedOver, IsInUse
 ghost use Rattle.pbuf_seats.specs.declared.owner.Owner.{Owner};
 
 use crate::NoMemory;
+use crate::hints::Hints;
 use crate::kept::Kept;
 use crate::makes::Makes;
 use crate::owner::{Owner, Row};
+use crate::spare::Spare;
 use lw_base::Limits;
 use lw_payload::Kind;
 use pbuf_counts::{Claim, Counts, Dropped, Holder};
@@ -25,6 +28,9 @@ const FIRST_ADDS: u32 = 65_534;
 
 // So often the first seat may split.
 const SPLITS: u32 = 65_535;
+
+// So many buffers without a use a seat keeps at most.
+const SPARE: u32 = 1_024;
 
 /// How many pbufs of each kind have no owner.
 #[derive(Clone, Copy, Debug, PartialEq, Eq)]
@@ -44,6 +50,8 @@ pub struct PoolSeat {
     makes: Makes,
     splits: u32,
     claimed: u32,
+    spare: Spare,
+    hints: Hints,
 }
 
 impl Model for PoolSeat {
@@ -88,6 +96,8 @@ impl PoolSeat {
             makes: Makes::NONE,
             splits: SPLITS,
             claimed: 0,
+            spare: Spare::new(alloc, SPARE)?,
+            hints: Hints::NONE,
         })
     }
 
@@ -105,6 +115,7 @@ impl PoolSeat {
     {
         let kept = Kept::new(alloc, 0, 0, 0, 0)?;
         let counts = Arc::try_clone(&self.counts)?;
+        let spare = Spare::new(alloc, SPARE)?;
         let holder = self.counts.part(&mut self.holder, claims);
         self.splits -= 1;
         let asked = if claims { self.makes.asked } else { 0 };
@@ -118,6 +129,8 @@ impl PoolSeat {
             },
             splits: 0,
             claimed: 0,
+            spare,
+            hints: Hints::NONE,
         })
     }
 
@@ -134,6 +147,8 @@ impl PoolSeat {
             makes,
             splits: _,
             claimed: _,
+            spare: _spare,
+            hints: _hints,
         } = o;
         self.counts.join(&mut self.holder, holder);
         self.makes.asked = self.makes.asked.saturating_add(makes.asked);
@@ -168,6 +183,13 @@ impl PoolSeat {
         self.kept.of(kind).len() as u32
     }
 
+    /// The atomic counts, which its chains keep alive.
+    pub fn counts(&self) -> Result<Arc<Counts>, NoMemory>
+        ensures { IfOk result (λ c. arc_value c ≡ self.now.holder.table) }
+    {
+        Arc::try_clone(&self.counts)
+    }
+
     /// How many pbufs of POOL have atomic counts.
     pub fn counted(&self) -> u32
         ensures { result ≡ self.now.holder.table.words }
@@ -182,6 +204,7 @@ impl PoolSeat {
         ensures owner { IfSome result (λ o. o ≡ Owner.Kept (record { kind = kind; place = place; adds = first_adds })) }
         ensures owned { IfSome result (λ o. IsOwner self.new o) }
         ensures rows { IfSome result (λ o. (s : Slot) → rows_of self.new.kept s ≡ rows_of self.old.kept s + row_of o s) }
+        ensures free { IfSome result (λ _. free_count (counts_of kind self.new.kept) + 1 ≡ free_count (counts_of kind self.old.kept)) }
         ensures sizes { (k : Kind) → length (counts_of k self.new.kept) ≡ length (counts_of k self.old.kept) }
         ensures some { self.new ≡ record self.old { kept = self.new.kept } }
         ensures none { IsNone result → self.new ≡ self.old }
@@ -190,6 +213,7 @@ impl PoolSeat {
             return None;
         }
         self.kept.take(kind, place);
+        self.hints.taken(kind, place);
         Some(Owner::Kept(Row {
             kind,
             place,
@@ -202,26 +226,49 @@ impl PoolSeat {
         requires there { place < self.old.holder.table.words }
         requires right { self.old.holder.rights ≡ 1 }
         requires countable { self.old.makes.made + self.old.makes.refused < 2 ^ 64 - 1 }
-        requires few { self.old.claimed < 4095 }
+        requires few { self.old.claimed + 1 < 2 ^ 20 }
         ensures owner { IfSome result (λ o. o ≡ Owner.Counted (owner_of self.old.holder.table place first_adds claim_weight)) }
         ensures owned { IfSome result (λ o. IsOwner self.new o) }
         ensures some { IsSome result → self.new ≡ record self.old { holder = record self.old.holder { weight = self.old.holder.weight - claim_weight; got = place ∷ self.old.holder.got }; claimed = self.old.claimed + 1 } }
+        ensures sum { IfSome result (λ o. self.new.holder.weight + weight_of o ≡ self.old.holder.weight) }
         ensures none { IsNone result → IsInUse self.old.holder place self.new.holder }
         ensures same { IsNone result → self.new ≡ record self.old { holder = self.new.holder } }
     {
         match self.counts.claim(&mut self.holder, place) {
             Claim::Got(holder) => {
                 self.claimed += 1;
+                self.hints.taken(Kind::Pool, place);
                 Some(Owner::Counted(holder))
             }
             Claim::InUse(_) => None,
         }
     }
 
+    /// Where to begin to look for a pbuf of the kind without an owner: behind the one that was taken last.
+    pub fn first_place(&self, kind: Kind) -> u32 {
+        self.hints.of(kind)
+    }
+
+    /// A buffer of these octets: a spare one where there is any, else a new one.
+    pub fn buffer(&mut self, alloc: Global, octets: &[u8]) -> Result<Vec<u8>, NoMemory>
+        ensures octets { IfOk result (λ b. b.items ≡ octets.now) }
+        ensures same { self.new ≡ self.old }
+    {
+        self.spare.fill(alloc, octets)
+    }
+
+    /// Keeps a buffer for `buffer` where there is room for it. Takes no memory.
+    pub fn keep_buffer(&mut self, buffer: Vec<u8>)
+        ensures { self.new ≡ self.old }
+    {
+        self.spare.keep(buffer);
+    }
+
     /// Counts a make of POOL of so many octets that is made.
     pub fn granted(&mut self, octets: u32)
         requires { self.old.makes.made + self.old.makes.refused < 2 ^ 64 - 1 }
-        ensures { self.new ≡ record self.old { makes = record self.old.makes { made = self.old.makes.made + 1; asked = min (self.old.makes.asked + pbufs_of Kind.Pool octets) (2 ^ 64 - 1) }; claimed = 0 } }
+        ensures counted { self.new ≡ record self.old { makes = record self.old.makes { made = self.old.makes.made + 1; asked = min (self.old.makes.asked + pbufs_of Kind.Pool octets) (2 ^ 64 - 1) }; claimed = 0 } }
+        ensures grows { self.old.makes.asked ≤ self.new.makes.asked }
     {
         self.makes.made += 1;
         self.makes.asked = self.makes.asked.saturating_add(pool_pbufs(octets));
@@ -231,7 +278,8 @@ impl PoolSeat {
     /// Counts one that is refused.
     pub fn denied(&mut self, octets: u32)
         requires { self.old.makes.made + self.old.makes.refused < 2 ^ 64 - 1 }
-        ensures { self.new ≡ record self.old { makes = record self.old.makes { refused = self.old.makes.refused + 1; last_refused = octets; asked = min (self.old.makes.asked + pbufs_of Kind.Pool octets) (2 ^ 64 - 1) }; claimed = 0 } }
+        ensures counted { self.new ≡ record self.old { makes = record self.old.makes { refused = self.old.makes.refused + 1; last_refused = octets; asked = min (self.old.makes.asked + pbufs_of Kind.Pool octets) (2 ^ 64 - 1) }; claimed = 0 } }
+        ensures grows { self.old.makes.asked ≤ self.new.makes.asked }
     {
         self.makes.refused += 1;
         self.makes.last_refused = octets;
@@ -239,12 +287,12 @@ impl PoolSeat {
         self.claimed = 0;
     }
 
-    /// Whether the count of the owner's pbuf has room for one owner more.
-    pub fn has_room(&self, owner: &Owner) -> bool
-        ensures { IsTrue result ↔ HasRoom self.now owner.now }
+    /// Whether the count of the owner's pbuf has room for so many owners more.
+    pub fn has_room(&self, owner: &Owner, more: u32) -> bool
+        ensures { IsTrue result ↔ HasRoom more self.now owner.now }
     {
         match owner {
-            Owner::Kept(row) => self.kept.count(row.kind, row.place) < u32::MAX,
+            Owner::Kept(row) => self.kept.count(row.kind, row.place) <= u32::MAX - more,
             Owner::Counted(_) => true,
         }
     }
@@ -252,7 +300,7 @@ impl PoolSeat {
     /// A second owner of the same pbuf, with so many of the adds left.
     pub fn share(&mut self, owner: &mut Owner, adds: u32) -> Owner
         requires owner { IsOwner self.old owner.old }
-        requires room { HasRoom self.old owner.old }
+        requires room { HasRoom 1 self.old owner.old }
         requires enough { adds < adds_of owner.old }
         ensures first { owner.new ≡ sharing adds owner.old }
         ensures second { result ≡ share_of adds owner.old }

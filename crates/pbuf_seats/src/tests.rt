@@ -31,7 +31,7 @@ fn a_kept_pbuf_is_taken_shared_and_given_up(rt: HostRuntime) -> Result<(), Fail>
         return Err(Fail::new("in use"));
     };
     assert!(rt; seat.take(Kind::Ram, 3).is_none());
-    assert!(rt; seat.has_room(&one));
+    assert!(rt; seat.has_room(&one, 1));
     let other = seat.share(&mut one, 15);
     assert!(rt; seat.free() == Free { ram: 7, ..ALL });
     assert!(rt; !seat.give_up(other));
@@ -69,5 +69,30 @@ fn alone_keeps_pool_too(rt: HostRuntime) -> Result<(), Fail> {
     assert!(rt; seat.give_up(one));
     seat.denied(3000);
     assert!(rt; seat.free() == ALL);
+    Ok(())
+}
+
+#[test]
+fn a_buffer_that_is_kept_serves_again(rt: HostRuntime) -> Result<(), Fail> {
+    let mut seat = PoolSeat::new(rt.alloc(), &SMALL, false)?;
+    let long = vec![in rt.alloc(); 7u8; 600]?;
+    let first = seat.buffer(rt.alloc(), &long)?;
+    seat.keep_buffer(first);
+    let second = seat.buffer(rt.alloc(), b"pbuf")?;
+    assert!(rt; second.as_slice() == b"pbuf".as_slice());
+    assert!(rt; second.capacity() >= 600);
+    let third = seat.buffer(rt.alloc(), b"pbuf")?;
+    assert!(rt; third.capacity() == 512);
+    Ok(())
+}
+
+#[test]
+fn the_search_begins_behind_what_was_taken_last(rt: HostRuntime) -> Result<(), Fail> {
+    let mut seat = PoolSeat::new(rt.alloc(), &SMALL, false)?;
+    assert!(rt; seat.first_place(Kind::Ram) == 0);
+    let one = seat.take(Kind::Ram, 3);
+    assert!(rt; one.is_some());
+    assert!(rt; seat.first_place(Kind::Ram) == 4);
+    assert!(rt; seat.first_place(Kind::Rom) == 0);
     Ok(())
 }
