@@ -1,2 +1,4 @@
 pub mod FramesLaws
 pub mod Packets
+pub mod HeldLaws
+pub mod StackLaws

@@ -1,5 +1,5 @@
 -- What a frame brings to a stack.
-use Rattle.std.specs.Prelude.{ℕ, ◌≤◌, ◌==◌, ◌||◌, nat_eq, Bool, List, length, Option, Some, None, Result, Ok, Err, drop, take, replicate, slice_range, is_ok, if◌then◌else◌}
+use Rattle.std.specs.Prelude.{ℕ, ◌+◌, ◌≤◌, ◌==◌, ◌||◌, nat_eq, Bool, List, length, Option, Some, None, Result, Ok, Err, drop, take, replicate, slice_range, is_ok, if◌then◌else◌}
 use Rattle.std.specs.Cmp.Lexicographic.{pointwise}
 use Rattle.lw_base.specs.declared.addresses.Ip.{Ip}
 use Rattle.lw_base.specs.declared.addresses.Mac.{Mac}
@@ -14,8 +14,8 @@ use Rattle.lw_wire.specs.Arp.{arp_of}
 use Rattle.lw_wire.specs.Ip.{ip_of}
 use Rattle.lw_wire.specs.Udp.{udp_of}
 use Rattle.lw_core.specs.declared.arrival.Arrival.{Arrival}
-use Rattle.lw_core.specs.declared.arrival.Arrival.TheVariants.{Arp, Answered, Nothing}
-use Rattle.lw_core.specs.Datagrams.{is_own}
+use Rattle.lw_core.specs.declared.arrival.Arrival.TheVariants.{Arp, Answered, Piece, Nothing}
+use Rattle.lw_core.specs.Datagrams.{is_accepted, is_fragment}
 
 -- a frame for a destination is taken by a stack with that hardware address, and by all where it is broadcast
 abbrev pub is_taken : Net → Mac → Bool
@@ -44,10 +44,18 @@ abbrev pub answered : Ip → Option (List ℕ) → Arrival
 answered src (Some message) = Answered src message
 answered src None = Nothing
 
+-- the message that answers a whole datagram: only one to the own address is answered
+abbrev pub reply_to : Net → IpHead → List ℕ → List ℕ → Option (List ℕ)
+reply_to net h header body = if h.dst.0 == net.ip.0 then answering h header body else None
+
 -- what octets bring that were read as a datagram (RFC 791), whose data ends with its total length
 abbrev pub datagram_brings : Net → List ℕ → Result (IpHead × ℕ) WireFault → Arrival
 datagram_brings net octets (Ok r) =
-    if is_own net r.0 then answered r.0.src (answering r.0 (take r.1 octets) (slice_range octets r.1 r.0.total)) else Nothing
+    if is_accepted net r.0
+    then (if is_fragment r.0
+    then Piece r.0
+    else answered r.0.src (reply_to net r.0 (take r.1 octets) (slice_range octets r.1 r.0.total)))
+    else Nothing
 datagram_brings net octets (Err fault) = Nothing
 
 -- what the data of a frame brings, by the frame's type: ARP's (RFC 826) or IPv4's (RFC 894)
@@ -70,8 +78,26 @@ arrival_of net octets = frame_brings net octets (eth_of octets)
 abbrev pub IsShortMessage : List ℕ → Type 0
 IsShortMessage message = length message ≤ 65535
 
--- a message that is answered is short
+-- a message that arrives is short
 abbrev pub IsShortAnswer : Arrival → Type 0
 IsShortAnswer (Arp p) = Unit {0}
 IsShortAnswer (Answered src message) = IsShortMessage message
+IsShortAnswer (Piece h) = Unit {0}
 IsShortAnswer Nothing = Unit {0}
+
+-- the data of a fragment in its frame: behind the Ethernet head and the IPv4 header, up to the total length
+abbrev pub fragment_data : List ℕ → IpHead → List ℕ
+fragment_data frame h = slice_range frame (14 + h.head_len) (14 + h.total)
+
+-- n octets hold the data of a fragment, behind a header of 20 octets or more
+pub record HoldsData (n : ℕ) (h : IpHead) : Type 0 where
+  pub header : 20 ≤ h.head_len
+  pub some : h.head_len ≤ h.total
+  pub within : h.total ≤ n
+
+-- a frame of n octets of data holds the data of the fragment that it brings
+abbrev pub HasData : ℕ → Arrival → Type 0
+HasData n (Arp p) = Unit {0}
+HasData n (Answered src message) = Unit {0}
+HasData n (Piece h) = HoldsData n h
+HasData n Nothing = Unit {0}

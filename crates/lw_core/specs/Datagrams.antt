@@ -1,5 +1,5 @@
 -- Which datagrams a stack takes, and the datagrams that it sends (RFC 791, RFC 1122 3.2.1.3).
-use Rattle.std.specs.Prelude.{ℕ, ◌≤◌, ◌+◌, ◌^◌, ◌-◌, ◌/◌, ◌++◌, ◌==◌, ◌&&◌, ◌||◌, not, Bool, false, List, bit_or, length, map}
+use Rattle.std.specs.Prelude.{ℕ, ◌<◌, ◌≤◌, ◌+◌, ◌^◌, ◌-◌, ◌/◌, ◌++◌, ◌==◌, ◌&&◌, ◌||◌, not, Bool, false, List, bit_or, length, map}
 use Rattle.lw_base.specs.declared.addresses.Ip.{Ip}
 use Rattle.lw_base.specs.declared.addresses.Mac.{Mac}
 use Rattle.lw_base.specs.declared.addresses.Net.{Net}
@@ -28,13 +28,18 @@ is_sender net ip = not (is_broadcast net ip) && not (is_multicast ip)
 abbrev pub is_fragment : IpHead → Bool
 is_fragment h = h.mf || not (h.offset == 0)
 
--- a whole datagram to the own address, from an address that may send one
-abbrev pub is_own : Net → IpHead → Bool
-is_own net h = h.dst.0 == net.ip.0 && is_sender net h.src && not (is_fragment h)
+-- a datagram is taken that goes to the own address or to a broadcast address, from an address that may send one
+abbrev pub is_accepted : Net → IpHead → Bool
+is_accepted net h = (h.dst.0 == net.ip.0 || is_broadcast net h.dst) && is_sender net h.src
 
 -- how many octets a packet has at most that one frame takes (RFC 894)
 abbrev pub mtu : ℕ
 mtu = 1500
+
+-- a packet that one frame takes
+pub record IsPacket (octets : List ℕ) : Type 0 where
+  pub some : 0 < length octets
+  pub fits : length octets ≤ mtu
 
 -- the header of a datagram that the stack sends: no options, type of service 0, time to live 255, from the own
 -- address. Its total length is that of each packet

@@ -3,3 +3,5 @@ pub mod Datagrams
 pub mod Arrivals
 pub mod Step
 pub mod History
+pub mod Held
+pub mod Stack

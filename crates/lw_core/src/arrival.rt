@@ -1,7 +1,7 @@
-ghost use Rattle.std.specs.Prelude.{◌≡◌, ◌≤◌, IfOk, IfSome, length};
+ghost use Rattle.std.specs.Prelude.{◌≡◌, ℕ, ◌-◌, ◌≤◌, IfOk, IfSome, length};
 ghost use Rattle.lw_icmp.specs.Messages.{echo_reply, unreachable};
-ghost use Rattle.lw_core.specs.Arrivals.{answered, answering, arp_brings, arrival_of, data_brings, datagram_brings, is_taken, port_answer, IsShortAnswer, IsShortMessage};
-ghost use Rattle.lw_core.specs.Datagrams.{is_broadcast, is_fragment, is_own, is_sender};
+ghost use Rattle.lw_core.specs.Arrivals.{answered, answering, arp_brings, arrival_of, data_brings, datagram_brings, is_taken, port_answer, reply_to, HasData, IsShortAnswer, IsShortMessage};
+ghost use Rattle.lw_core.specs.Datagrams.{is_accepted, is_broadcast, is_fragment, is_sender};
 ghost use Rattle.lw_wire.specs.Arp.{arp_of};
 ghost use Rattle.lw_wire.specs.Ip.{ip_of};
 ghost use Rattle.lw_wire.specs.Udp.{udp_of};
@@ -34,11 +34,12 @@ const PROTOCOL_UNREACHABLE: u8 = 2;
 const PORT_UNREACHABLE: u8 = 3;
 
 /// What a frame brings to a stack: an ARP packet, a datagram that is answered, seen as its source and
-/// the message of ICMP that answers it, or nothing that the stack takes.
+/// the message of ICMP that answers it, a fragment, by its header, or nothing that the stack takes.
 #[derive(Drop)]
 pub enum Arrival {
     Arp(ArpPacket),
     Answered(Ip, Octets),
+    Piece(IpHead),
     Nothing,
 }
 
@@ -46,6 +47,7 @@ pub enum Arrival {
 pub fn arrival_of(alloc: Global, net: &Net, octets: &[u8]) -> Result<Arrival, NoMemory>
     ensures exact { IfOk result (λ a. a ≡ arrival_of net.now octets.now) }
     ensures short { IfOk result IsShortAnswer }
+    ensures holds { IfOk result (HasData (length octets.now - 14)) }
 {
     let Ok((head, place)) = read_eth(octets) else {
         return Ok(Arrival::Nothing);
@@ -60,6 +62,7 @@ pub fn arrival_of(alloc: Global, net: &Net, octets: &[u8]) -> Result<Arrival, No
 fn data_brings(alloc: Global, net: &Net, ethertype: u16, body: &[u8]) -> Result<Arrival, NoMemory>
     ensures exact { IfOk result (λ a. a ≡ data_brings net.now ethertype body.now) }
     ensures short { IfOk result IsShortAnswer }
+    ensures holds { IfOk result (HasData (length body.now)) }
 {
     match ethertype {
         ARP => Ok(arp_brings(body)),
@@ -75,7 +78,9 @@ fn takes(net: &Net, dst: Mac) -> bool
 }
 
 fn arp_brings(body: &[u8]) -> Arrival
-    ensures { result ≡ arp_brings (arp_of body.now) }
+    ensures exact { result ≡ arp_brings (arp_of body.now) }
+    ensures short { IsShortAnswer result }
+    ensures holds { (n : ℕ) → HasData n result }
 {
     match read_arp(body) {
         Ok(packet) => Arrival::Arp(packet),
@@ -86,16 +91,39 @@ fn arp_brings(body: &[u8]) -> Arrival
 fn datagram_brings(alloc: Global, net: &Net, octets: &[u8]) -> Result<Arrival, NoMemory>
     ensures exact { IfOk result (λ a. a ≡ datagram_brings net.now octets.now (ip_of octets.now)) }
     ensures short { IfOk result IsShortAnswer }
+    ensures holds { IfOk result (HasData (length octets.now)) }
 {
     let Ok((head, place)) = read_ip(octets) else {
         return Ok(Arrival::Nothing);
     };
-    if !is_own(net, &head) {
+    if !is_accepted(net, &head) {
         return Ok(Arrival::Nothing);
+    }
+    if is_fragment(&head) {
+        return Ok(Arrival::Piece(head));
     }
     let (header, _) = octets.split_at(place);
     let body = &octets[place..usize::from(head.total)];
-    Ok(answered(head.src, answering(alloc, &head, header, body)?))
+    Ok(answered(head.src, reply_to(alloc, net, &head, header, body)?))
+}
+
+/// The message of ICMP that answers a whole datagram.
+pub fn reply_to(
+    alloc: Global,
+    net: &Net,
+    head: &IpHead,
+    header: &[u8],
+    body: &[u8],
+) -> Result<Option<Octets>, NoMemory>
+    requires header { length header.now ≤ 255 }
+    requires body { length body.now ≤ 65535 }
+    ensures exact { IfOk result (λ m. m ≡ reply_to net.now head.now header.now body.now) }
+    ensures short { IfOk result (λ m. IfSome m IsShortMessage) }
+{
+    if head.dst.0 != net.ip.0 {
+        return Ok(None);
+    }
+    answering(alloc, head, header, body)
 }
 
 /// What the message brings that answers a datagram, if there is one.
@@ -103,6 +131,7 @@ fn answered(src: Ip, message: Option<Octets>) -> Arrival
     requires { IfSome message IsShortMessage }
     ensures exact { result ≡ answered src message }
     ensures short { IsShortAnswer result }
+    ensures holds { (n : ℕ) → HasData n result }
 {
     match message {
         Some(message) => Arrival::Answered(src, message),
@@ -169,11 +198,12 @@ fn refusal(alloc: Global, code: u8, header: &[u8], body: &[u8]) -> Result<Octets
     Ok(Octets::from_vec(message))
 }
 
-/// Whether a datagram is a whole one to the own address, from an address that may send one.
-fn is_own(net: &Net, head: &IpHead) -> bool
-    ensures { result ≡ is_own net.now head.now }
+/// Whether a datagram is taken: one to the own address or a broadcast address, from an address that
+/// may send one.
+fn is_accepted(net: &Net, head: &IpHead) -> bool
+    ensures { result ≡ is_accepted net.now head.now }
 {
-    head.dst.0 == net.ip.0 && is_sender(net, head.src) && !is_fragment(head)
+    (head.dst.0 == net.ip.0 || is_broadcast(net, head.dst)) && is_sender(net, head.src)
 }
 
 fn is_fragment(head: &IpHead) -> bool

@@ -16,11 +16,13 @@ pub enum Reply {
     Done,
 }
 
-/// One turn of the core: whose it was, the event, the frames sent in their order, and the answer.
+/// One turn of the core: whose it was, the event, whether the pool of RAM was short for it, the frames
+/// sent in their order, and the answer.
 #[derive(Drop)]
 pub struct Entry {
     pub actor: u32,
     pub event: EventText,
+    pub short: bool,
     pub frames: FrameList,
     pub reply: Reply,
 }

@@ -18,7 +18,7 @@ const ETH_LEN: usize = 14;
 const ARP_LEN: usize = 28;
 
 /// The octets of an IPv4 header without options.
-const IP_LEN: u8 = 20;
+pub const IP_LEN: u8 = 20;
 
 /// How many octets a packet has at most that one frame takes (RFC 894).
 const MTU: u16 = 1500;

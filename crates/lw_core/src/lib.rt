@@ -5,8 +5,12 @@ mod arrival;
 mod event;
 mod frames;
 mod outgoing;
+mod receive;
 mod stack;
+#[cfg(test)]
+mod tests;
+mod turn;
 
 pub use event::{Entry, Event, EventText, Reply};
-pub use stack::Core;
 pub use std::alloc::AllocError as NoMemory;
+pub use turn::Core;

@@ -8,28 +8,31 @@ use lw_arp::EntryState;
 use lw_base::{FrameList, Ip, Mac, Net, Octets};
 use std::alloc::Global;
 
-/// What goes out: frames, and a packet that waits for the hardware address of a next hop.
+/// What goes out: frames, and a packet that waits for the hardware address of a next hop; and the
+/// identification of the next datagram after it.
 #[derive(Drop)]
 pub struct Outgoing {
     pub frames: FrameList,
     pub waits: Option<(Ip, Octets)>,
+    pub next_id: u16,
 }
 
 /// Frames go out, and nothing waits.
-pub fn at_once(frames: Vec<Octets>) -> Outgoing
-    ensures { result ≡ record { frames = frames.items; waits = None } }
+pub fn at_once(frames: Vec<Octets>, next_id: u16) -> Outgoing
+    ensures { result ≡ record { frames = frames.items; waits = None; next_id = next_id } }
 {
     Outgoing {
         frames: FrameList::from_vec(frames),
         waits: None,
+        next_id,
     }
 }
 
 /// Nothing goes out.
-pub fn silence(alloc: Global) -> Outgoing
-    ensures { result ≡ silence }
+pub fn silence(alloc: Global, next_id: u16) -> Outgoing
+    ensures { result ≡ silence next_id }
 {
-    at_once(Vec::new(alloc))
+    at_once(Vec::new(alloc), next_id)
 }
 
 /// Packets to a next hop, of which the table has this.
@@ -38,27 +41,29 @@ pub fn to_hop(
     net: &Net,
     hop: Ip,
     packets: Vec<Octets>,
+    next_id: u16,
     state: EntryState,
 ) -> Result<Outgoing, NoMemory>
-    ensures { IfOk result (λ o. o ≡ to_hop net.now hop packets.items state) }
+    ensures { IfOk result (λ o. o ≡ to_hop net.now hop packets.items next_id state) }
 {
     match state {
-        EntryState::Stable(mac) => Ok(at_once(frames_to(alloc, net, mac, &packets)?)),
-        EntryState::Pending => Ok(held_back(hop, packets, Vec::new(alloc))),
+        EntryState::Stable(mac) => Ok(at_once(frames_to(alloc, net, mac, &packets)?, next_id)),
+        EntryState::Pending => Ok(held_back(hop, packets, Vec::new(alloc), next_id)),
         EntryState::Empty => {
             let request = one(alloc, arp_request(alloc, net, hop)?)?;
-            Ok(held_back(hop, packets, request))
+            Ok(held_back(hop, packets, request, next_id))
         }
     }
 }
 
 /// Frames go out, and the last of the packets waits.
-fn held_back(hop: Ip, mut packets: Vec<Octets>, frames: Vec<Octets>) -> Outgoing
-    ensures { result ≡ record { frames = frames.items; waits = last_waits hop packets.items } }
+fn held_back(hop: Ip, mut packets: Vec<Octets>, frames: Vec<Octets>, next_id: u16) -> Outgoing
+    ensures { result ≡ record { frames = frames.items; waits = last_waits hop packets.items; next_id = next_id } }
 {
     Outgoing {
         frames: FrameList::from_vec(frames),
         waits: packets.pop().map(|packet| (hop, packet)),
+        next_id,
     }
 }
 

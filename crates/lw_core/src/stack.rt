@@ -1,194 +1,152 @@
-ghost use Rattle.std.specs.Prelude.{◌≡◌, ◌+◌, ◌%◌, ◌^◌, ◌∷◌, ◌≤◌, [], IfErr, IfOk, IfSome, OnErr, length};
+ghost use Rattle.std.specs.Prelude.{◌≡◌, ◌+◌, ◌-◌, ◌%◌, ◌^◌, ◌≤◌, ◌<◌, ℕ, List, IfOk, IfSome, All, length};
 ghost use Rattle.lw_netif.specs.Route.{route_of};
-ghost use Rattle.lw_core.specs.State.{opening};
-ghost use Rattle.lw_core.specs.History.{IsStep};
-ghost use Rattle.lw_core.specs.Step.{counted, going, id_after, id_behind, neighbours_after, on_arrival, outgoing, to_destination, waiting_in, IsUnknown};
-ghost use Rattle.lw_core.specs.Arrivals.{arrival_of, IsShortAnswer};
+ghost use Rattle.lw_arp.specs.Neighbours.{packets, released, state_of};
+ghost use Rattle.lw_core.specs.Arrivals.{reply_to, HasData, IsShortAnswer, IsShortMessage};
+ghost use Rattle.lw_core.specs.Stack.{stack_state};
+ghost use Rattle.lw_core.specs.Step.{arp_sends, neighbours_with, outgoing, sends, to_destination, whole_answer, whole_of, IsUnknown};
+ghost use Rattle.lw_core.specs.declared.arrival.Arrival.{Arrival};
 
 use crate::NoMemory;
-use crate::arrival::{Arrival, arrival_of};
-use crate::event::{Entry, Event, Reply};
-use crate::frames::{arp_reply, packet_frame, packets};
+use crate::arrival::{Arrival, reply_to};
+use crate::frames::{IP_LEN, arp_reply, packet_frame, packets};
 use crate::outgoing::{Outgoing, at_once, silence, to_hop};
-use lw_arp::{ArpTable, is_answered};
-use lw_base::{ArpPacket, FrameList, Ip, Limits, Octets};
+use lw_arp::{ArpTable, EntryState, is_answered};
+use lw_base::{ArpPacket, Ip, IpHead, Limits, Net, Octets};
 use lw_netif::Netif;
+use lw_payload::{Payload, octets_of};
+use lw_reass::Reass;
+use lw_wire::ip_octets;
 use std::alloc::Global;
-use std::marker::Model;
 
-/// A stack. Contracts see it as its state.
+/// The octets of an Ethernet head.
+pub const ETH_LEN: usize = 14;
+
+/// What a stack is made of.
 #[derive(Drop)]
-pub struct Core {
-    netif: Netif,
-    limits: Limits,
-    table: ArpTable<Octets>,
-    next_id: u16,
-    frames: u32,
-    stopped: bool,
+pub struct Stack<P: Payload> {
+    pub netif: Netif,
+    pub limits: Limits,
+    pub table: ArpTable<P>,
+    pub reass: Reass<P>,
+    pub next_id: u16,
+    pub frames: u32,
+    pub stopped: bool,
 }
 
-impl Model for Core {
-    ghost use Rattle.lw_core.specs.State.{State};
-
-    ghost Value = { State };
-
-    ghost view = { λ c. record { net = c.netif.net; limits = c.limits; neighbours = c.table; sent = c.netif.sent; next_id = c.next_id; frames = c.frames; stopped = c.stopped } };
-}
-
-impl Core {
-    /// A stack with an interface by which nothing was sent.
-    pub fn new(alloc: Global, netif: Netif, limits: Limits) -> Result<Core, NoMemory>
-        requires { netif.sent ≡ [] }
-        ensures { IfOk result (λ c. c ≡ opening netif.net limits) }
-    {
-        let table = ArpTable::new(alloc)?;
-        Ok(Core {
-            netif,
-            limits,
-            table,
-            next_id: 0,
-            frames: 0,
-            stopped: false,
-        })
-    }
-
-    /// Makes one event of an actor. All memory is taken before anything changes.
-    pub fn step(
-        &mut self,
+impl<P: Payload> Stack<P> {
+    /// What an arrival by a frame sends.
+    pub fn outgoing(
+        &self,
         alloc: Global,
-        actor: u32,
-        event: Event<Octets>,
-    ) -> Result<(Entry, Reply), (NoMemory, Event<Octets>)>
-        ensures ok { IfOk result (λ r. IsStep self.old actor event r.0 r.1 self.new) }
-        ensures err { IfErr result (λ r. (r.1 ≡ event) × (self.new ≡ self.old)) }
-    {
-        match event {
-            Event::Frame(octets) => self.frame(alloc, actor, octets),
-            Event::Stop => {
-                self.stopped = true;
-                Ok(done(actor, Event::Stop, FrameList::from_vec(Vec::new(alloc))))
-            }
-        }
-    }
-
-    fn frame(
-        &mut self,
-        alloc: Global,
-        actor: u32,
-        octets: Octets,
-    ) -> Result<(Entry, Reply), (NoMemory, Event<Octets>)>
-        ensures ok { IfOk result (λ r. IsStep self.old actor (Event.Frame octets) r.0 r.1 self.new) }
-        ensures err { IfErr result (λ r. (r.1 ≡ Event.Frame octets) × (self.new ≡ self.old)) }
-    {
-        match self.receive(alloc, octets.as_slice()) {
-            Ok(frames) => Ok(done(actor, Event::Frame(octets), frames)),
-            Err(none) => Err((none, Event::Frame(octets))),
-        }
-    }
-
-    /// Takes a frame in, and answers the frames that it sends.
-    fn receive(&mut self, alloc: Global, octets: &[u8]) -> Result<FrameList, NoMemory>
-        ensures ok { IfOk result (λ frames. (frames ≡ (on_arrival self.old (arrival_of self.old.net octets.now)).frames) × (self.new ≡ (on_arrival self.old (arrival_of self.old.net octets.now)).state)) }
-        ensures err { OnErr result (self.new ≡ self.old) }
-    {
-        let arrival = arrival_of(alloc, self.netif.net(), octets)?;
-        let Outgoing { frames, waits } = self.outgoing(alloc, &arrival)?;
-        let mut frames = frames.into_vec();
-        frames.truncate(self.netif.left() as usize);
-        self.netif.send(alloc, &frames)?;
-        self.change(&arrival, waits);
-        Ok(FrameList::from_vec(frames))
-    }
-
-    /// What an arrival changes beside the frames sent.
-    fn change(&mut self, arrival: &Arrival, waits: Option<(Ip, Octets)>)
-        requires { waits ≡ (outgoing self.old arrival.now).waits }
-        ensures { self.new ≡ record self.old { neighbours = neighbours_after self.old arrival.now; next_id = id_after self.old arrival.now; frames = counted self.old.frames } }
+        frame: &[u8],
+        arrival: &Arrival,
+    ) -> Result<Outgoing, NoMemory>
+        requires short { IsShortAnswer arrival.now }
+        requires holds { HasData (length frame.now - 14) arrival.now }
+        requires waiting { All (λ p. length (P.seen p).octets < 2 ^ 32) (packets self.now.table) }
+        ensures exact { IfOk result (λ o. o ≡ outgoing (stack_state P.seen self.now) frame.now arrival.now) }
+        ensures unknown { IfOk result (λ o. IfSome o.waits (λ w. IsUnknown (neighbours_with (stack_state P.seen self.now) arrival.now) w.0)) }
     {
         match arrival {
-            Arrival::Arp(packet) => {
-                self.table.input(packet, self.netif.net().ip);
-            }
-            Arrival::Answered(src, _) => {
-                self.count_datagram(*src);
-                self.wait(waits);
-            }
-            Arrival::Nothing => {}
-        }
-        self.frames = self.frames.saturating_add(1);
-    }
-
-    /// Takes an identification, where there is a next hop to an address.
-    fn count_datagram(&mut self, dst: Ip)
-        ensures { self.new ≡ record self.old { next_id = id_behind self.old.next_id (route_of self.old.net dst) } }
-    {
-        if self.netif.route(dst).is_ok() {
-            self.next_id = self.next_id.wrapping_add(1);
-        }
-    }
-
-    /// Lets a packet wait for a next hop whose hardware address isn't known.
-    fn wait(&mut self, waits: Option<(Ip, Octets)>)
-        requires { IfSome waits (λ w. IsUnknown self.old.neighbours w.0) }
-        ensures { self.new ≡ record self.old { neighbours = waiting_in self.old.neighbours waits } }
-    {
-        if let Some((hop, packet)) = waits {
-            self.table.lookup(hop);
-            self.table.hold(hop, packet);
-        }
-    }
-
-    /// What goes out in answer to an arrival.
-    fn outgoing(&self, alloc: Global, arrival: &Arrival) -> Result<Outgoing, NoMemory>
-        requires { IsShortAnswer arrival.now }
-        ensures { IfOk result (λ o. o ≡ outgoing self.now arrival.now) }
-    {
-        match arrival {
-            Arrival::Arp(packet) => Ok(at_once(self.arp_frames(alloc, packet)?)),
+            Arrival::Arp(packet) => Ok(at_once(self.arp_frames(alloc, packet)?, self.next_id)),
             Arrival::Answered(src, message) => self.to_destination(alloc, *src, message.as_slice()),
-            Arrival::Nothing => Ok(silence(alloc)),
+            Arrival::Piece(head) => self.piece_sends(alloc, frame, head),
+            Arrival::Nothing => Ok(silence(alloc, self.next_id)),
         }
+    }
+
+    /// What a fragment sends: the answer to the datagram that it makes whole.
+    fn piece_sends(&self, alloc: Global, frame: &[u8], head: &IpHead) -> Result<Outgoing, NoMemory>
+        requires { HasData (length frame.now - 14) (Arrival.Piece head.now) }
+        ensures exact { IfOk result (λ o. o ≡ sends (stack_state P.seen self.now) (whole_answer self.now.netif.net (whole_of (stack_state P.seen self.now) frame.now head.now))) }
+        ensures unknown { IfOk result (λ o. IfSome o.waits (λ w. IsUnknown (stack_state P.seen self.now).neighbours w.0)) }
+    {
+        let from = ETH_LEN + usize::from(head.head_len);
+        let to = ETH_LEN + usize::from(head.total);
+        let whole = self.reass.whole_with(alloc, head, &frame[from..to])?;
+        self.sends(alloc, whole_answer(alloc, self.netif.net(), whole)?)
+    }
+
+    /// What an answer sends, if there is one.
+    fn sends(&self, alloc: Global, answer: Option<(Ip, Octets)>) -> Result<Outgoing, NoMemory>
+        requires { IfSome answer (λ a. IsShortMessage a.1) }
+        ensures exact { IfOk result (λ o. o ≡ sends (stack_state P.seen self.now) answer) }
+        ensures unknown { IfOk result (λ o. IfSome o.waits (λ w. IsUnknown (stack_state P.seen self.now).neighbours w.0)) }
+    {
+        match answer {
+            Some((dst, message)) => self.to_destination(alloc, dst, message.as_slice()),
+            None => Ok(silence(alloc, self.next_id)),
+        }
+    }
+
+    /// A message of ICMP to a destination.
+    fn to_destination(&self, alloc: Global, dst: Ip, message: &[u8]) -> Result<Outgoing, NoMemory>
+        requires { IsShortMessage message.now }
+        ensures exact { IfOk result (λ o. o ≡ to_destination (stack_state P.seen self.now) dst message.now (route_of self.now.netif.net dst)) }
+        ensures unknown { IfOk result (λ o. IfSome o.waits (λ w. IsUnknown (stack_state P.seen self.now).neighbours w.0)) }
+    {
+        let Ok(hop) = self.netif.route(dst) else {
+            return Ok(silence(alloc, self.next_id));
+        };
+        let net = self.netif.net();
+        let packets = packets(alloc, net, self.next_id, dst, message)?;
+        let next_id = self.next_id.wrapping_add(1);
+        to_hop(alloc, net, hop, packets, next_id, self.known_of(hop))
+    }
+
+    /// What is known of a next hop.
+    fn known_of(&self, hop: Ip) -> EntryState
+        ensures { result ≡ state_of (stack_state P.seen self.now).neighbours hop }
+    {
+        self.table.state_of(hop)
     }
 
     /// The answer to an ARP request, and what waited for its sender.
     fn arp_frames(&self, alloc: Global, packet: &ArpPacket) -> Result<Vec<Octets>, NoMemory>
-        ensures { IfOk result (λ frames. frames.items ≡ (outgoing self.now (Arrival.Arp packet.now)).frames) }
+        requires { All (λ p. length (P.seen p).octets < 2 ^ 32) (packets self.now.table) }
+        ensures { IfOk result (λ frames. frames.items ≡ arp_sends (stack_state P.seen self.now) packet.now) }
     {
         let net = self.netif.net();
         let mut frames = Vec::new(alloc);
         if is_answered(packet, net.ip) {
             frames.push(arp_reply(alloc, net, packet)?)?;
         }
-        if let Some(waiting) = self.table.released(packet, net.ip) {
-            frames.push(packet_frame(alloc, net, packet.smac, waiting.as_slice())?)?;
+        if let Some(octets) = self.released(alloc, packet)? {
+            frames.push(packet_frame(alloc, net, packet.smac, octets.as_slice())?)?;
         }
         Ok(frames)
     }
 
-    fn to_destination(&self, alloc: Global, dst: Ip, message: &[u8]) -> Result<Outgoing, NoMemory>
-        requires { length message.now ≤ 65535 }
-        ensures { IfOk result (λ o. o ≡ to_destination self.now dst message.now (route_of self.now.net dst)) }
+    /// The octets of the packet that an ARP packet lets out, if one waits.
+    fn released(&self, alloc: Global, packet: &ArpPacket) -> Result<Option<Octets>, NoMemory>
+        requires { All (λ p. length (P.seen p).octets < 2 ^ 32) (packets self.now.table) }
+        ensures { IfOk result (λ o. o ≡ released self.now.netif.net.ip (stack_state P.seen self.now).neighbours packet.now) }
     {
-        let Ok(hop) = self.netif.route(dst) else {
-            return Ok(silence(alloc));
-        };
-        let net = self.netif.net();
-        let packets = packets(alloc, net, self.next_id, dst, message)?;
-        to_hop(alloc, net, hop, packets, self.table.state_of(hop))
+        match self.table.released(packet, self.netif.net().ip) {
+            Some(waiting) => Ok(Some(octets_of(alloc, waiting)?)),
+            None => Ok(None),
+        }
     }
 }
 
-/// The entry of an event that was done, and its reply.
-fn done(actor: u32, event: Event<Octets>, frames: FrameList) -> (Entry, Reply)
-    ensures { result ≡ (record { actor = actor; event = event; frames = frames; reply = Reply.Done }, Reply.Done) }
+/// The answer to a datagram that a fragment made whole.
+fn whole_answer(
+    alloc: Global,
+    net: &Net,
+    whole: Option<(IpHead, Octets)>,
+) -> Result<Option<(Ip, Octets)>, NoMemory>
+    requires { IfSome whole (λ w. IsShortMessage w.1) }
+    ensures exact { IfOk result (λ a. a ≡ whole_answer net.now whole) }
+    ensures short { IfOk result (λ a. IfSome a (λ b. IsShortMessage b.1)) }
 {
-    (
-        Entry {
-            actor,
-            event,
-            frames,
-            reply: Reply::Done,
-        },
-        Reply::Done,
-    )
+    let Some((head, body)) = whole else {
+        return Ok(None);
+    };
+    let first = IpHead {
+        head_len: IP_LEN,
+        offset: 0,
+        ..head
+    };
+    let message = reply_to(alloc, net, &head, &ip_octets(&first), body.as_slice())?;
+    Ok(message.map(|message| (head.src, message)))
 }

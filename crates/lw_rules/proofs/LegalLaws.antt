@@ -1,5 +1,5 @@
 -- The serial schedule gives a legal transcript.
-use Rattle.std.proofs.Common.{ℕ, ◌≡◌, ◌+◌, ◌++◌, ◌∙◌, List, [], ◌∷◌, suc, length, map, slice_get, All, Some, ap, sym, subst, refl, arith, append_assoc, append-nil, add_comm, add-zero, codes}
+use Rattle.std.proofs.Common.{ℕ, ◌≡◌, ◌+◌, ◌++◌, ◌∙◌, List, [], ◌∷◌, suc, length, map, slice_get, All, Some, ap, sym, subst, refl, arith, false, append_assoc, append-nil, add_comm, add-zero, codes}
 use Rattle.std.proofs.lemmas.List.Elements.{All-nil, All-cons}
 use Rattle.std.proofs.lemmas.List.{length-append}
 use Rattle.std.specs.List.Sorted.{IsStrictlyIncreasing}
@@ -22,7 +22,7 @@ use Rattle.lw_transcript.specs.declared.lines.Body.{Body}
 use Rattle.lw_rules.specs.Lines.{core_lines_from, core_line}
 use Rattle.lw_rules.specs.Schedule.{entries_of, named_from, after_calls, call_parts, beginning, body_of, serial_transcript}
 use Rattle.lw_rules.specs.Legal.{count_from, names_in, names_of, IsFrameLine, AreCalls, ReplayRule, InputRule, EndRule, IsLegal}
-use Rattle.lw_rules.proofs.LinesLaws.{replay_entries, entries_back, numbers_of_lines, length-core_lines_from, frames_of_lines, count_lines, count_from-append, count_rises, seam, frames_given}
+use Rattle.lw_rules.proofs.LinesLaws.{IsServed, replay_entries, entries_back, entries_served, numbers_of_lines, length-core_lines_from, frames_of_lines, count_lines, count_from-append, count_rises, seam, frames_given}
 
 -- the names of the evidence of frames, counted from n + 1
 names_of_named : (n : ℕ) (frames : List (List ℕ)) → names_in (named_from n frames) ≡ count_from (n + 1) frames
@@ -37,25 +37,25 @@ length-named_from n (frame ∷ frames) = ap suc (length-named_from (n + 1) frame
 -- counting frames, events or entries gives the same numbers
 count_entries : (s : State) (n : ℕ) (frames : List (List ℕ)) → count_from n (entries_of s 0 (map Frame frames)) ≡ count_from n frames
 count_entries s n [] = refl
-count_entries s n (frame ∷ frames) = ap (λ (ns : List ℕ). n ∷ ns) (count_entries (step s (Frame frame)).state (n + 1) frames)
+count_entries s n (frame ∷ frames) = ap (λ (ns : List ℕ). n ∷ ns) (count_entries (step s (Frame frame) false).state (n + 1) frames)
 
 -- as many entries as frames
 length_entries : (s : State) (frames : List (List ℕ)) → length (entries_of s 0 (map Frame frames)) ≡ length frames
 length_entries s [] = refl
-length_entries s (frame ∷ frames) = ap suc (length_entries (step s (Frame frame)).state frames)
+length_entries s (frame ∷ frames) = ap suc (length_entries (step s (Frame frame) false).state frames)
 
 -- each frame that was fed has its line, whatever stands before the lines and behind them
 lines_named : (core front : List CoreLine) (s : State) (n : ℕ) (frames : List (List ℕ)) (more : List Entry) → length front ≡ n → core ≡ front ++ core_lines_from (n + 1) (entries_of s 0 (map Frame frames) ++ more) → All (IsFrameLine core 0) (names_in (named_from n frames))
 lines_named core front s n [] more long is = All-nil (IsFrameLine core 0)
 lines_named core front s n (frame ∷ frames) more long is =
-    let line : CoreLine = core_line (n + 1) (entry_of s 0 (Frame frame)) in
-    let behind : List CoreLine = core_lines_from (n + 1 + 1) (entries_of (step s (Frame frame)).state 0 (map Frame frames) ++ more) in
+    let line : CoreLine = core_line (n + 1) (entry_of s 0 (Frame frame) false) in
+    let behind : List CoreLine = core_lines_from (n + 1 + 1) (entries_of (step s (Frame frame) false).state 0 (map Frame frames) ++ more) in
     let stands : slice_get core n ≡ Some line =
     subst (λ k. slice_get core k ≡ Some line) long (rw is (seam front line behind)) in
     All-cons (IsFrameLine core 0) (n + 1) (names_in (named_from (n + 1) frames))
     (frame, record { place = n; line = line; number = refl; stands = stands; own = refl; given = refl })
     (
-    lines_named core (front ++ line ∷ []) (step s (Frame frame)).state (n + 1) frames more
+    lines_named core (front ++ line ∷ []) (step s (Frame frame) false).state (n + 1) frames more
     (length-append front (line ∷ []) ∙ ap (λ k. k + 1) long)
     (is ∙ sym (append_assoc front (line ∷ []) behind))
     )
@@ -79,7 +79,7 @@ abbrev entries_fed : State → List (List ℕ) → List Entry
 entries_fed s frames = entries_of s 0 (map Frame frames)
 
 abbrev stop_entry : State → List (List ℕ) → Entry
-stop_entry s frames = entry_of (state_after s (map Frame frames)) 0 StopEvent
+stop_entry s frames = entry_of (state_after s (map Frame frames)) 0 StopEvent false
 
 -- what the driver of such a run saw and did
 abbrev driver_parts : State → List (List ℕ) → List CallPart
@@ -134,9 +134,11 @@ replayed : (script : Script) (frames : List (List ℕ)) → ReplayRule script (r
 replayed script frames =
     let s = opening script.net (limits_of script.profile) in
     let entries = entries_fed s frames ++ stop_entry s frames ∷ [] in
+    let stopped = All-cons IsServed (stop_entry s frames) [] refl (All-nil IsServed) in
+    let served = entries_served s 0 (map Frame frames) (stop_entry s frames ∷ []) stopped in
     record {
       numbers = numbers_of_lines 1 entries ∙ sym (count_lines 1 1 entries);
-      replay = rw (entries_back 1 entries) (replay_entries s 0 (map Frame frames) (stop_entry s frames ∷ []) (refl, tt));
+      replay = rw (entries_back 1 entries served) (replay_entries s 0 (map Frame frames) (stop_entry s frames ∷ []) (refl, tt));
     }
 
 -- the frames fed are those of the capture

@@ -1,5 +1,5 @@
 -- The transcript of the serial schedule is one of the grammar.
-use Rattle.std.proofs.Common.{ℕ, ◌≡◌, ◌+◌, ◌≤◌, ◌++◌, List, [], ◌∷◌, suc, length, map, All, codes, subst, sym, ap, refl, arith}
+use Rattle.std.proofs.Common.{ℕ, ◌≡◌, ◌+◌, ◌≤◌, ◌++◌, List, [], ◌∷◌, suc, length, map, All, false, codes, subst, sym, ap, refl, arith}
 use Rattle.std.proofs.lemmas.List.Elements.{All-nil, All-cons, All-head, All-tail}
 use Rattle.lw_core.specs.declared.event.Event.TheVariants.{Frame, Stop as StopEvent}
 use Rattle.lw_core.specs.declared.event.Entry.{Entry}
@@ -23,10 +23,10 @@ use Rattle.lw_rules.specs.Schedule.{Configuration, entries_of, turn, call_parts,
 core_short : (s : State) (n : ℕ) (frames : List (List ℕ)) (more : List Entry) → HasSound s → All IsFrame frames → ((k : ℕ) → All IsCore (core_lines_from k more)) → All IsCore (core_lines_from n (entries_of s 0 (map Frame frames) ++ more))
 core_short s n [] more sound short rest = rest n
 core_short s n (frame ∷ frames) more sound short rest =
-    All-cons IsCore (core_line n (entry_of s 0 (Frame frame)))
-    (core_lines_from (n + 1) (entries_of (step s (Frame frame)).state 0 (map Frame frames) ++ more))
-    (record { event = All-head IsFrame frame frames short; outs = step_short s (Frame frame) sound })
-    (core_short (step s (Frame frame)).state (n + 1) frames more (step_sound s (Frame frame) sound) (All-tail IsFrame frame frames short) rest)
+    All-cons IsCore (core_line n (entry_of s 0 (Frame frame) false))
+    (core_lines_from (n + 1) (entries_of (step s (Frame frame) false).state 0 (map Frame frames) ++ more))
+    (record { event = All-head IsFrame frame frames short; outs = step_short s (Frame frame) false sound })
+    (core_short (step s (Frame frame) false).state (n + 1) frames more (step_sound s (Frame frame) false sound) (All-tail IsFrame frame frames short) rest)
 
 -- the texts of calls are words with single spaces
 text_of_call : (call : Call) → IsCallText (call_text call)
@@ -56,7 +56,7 @@ with_calls script frames calls =
 core_of_run : (script : Script) (frames : List (List ℕ)) → length script.net.mac.0 ≤ 6 → All IsFrame frames → All IsCore (with_calls script frames (FeedAll ∷ Stop ∷ [])).core
 core_of_run script frames own short =
     let s = opening script.net (limits_of script.profile) in
-    let stop = entry_of (state_after s (map Frame frames)) 0 StopEvent in
+    let stop = entry_of (state_after s (map Frame frames)) 0 StopEvent false in
     core_short s 1 frames (stop ∷ []) (opening_sound script.net (limits_of script.profile) own) short
     (λ k. All-cons IsCore (core_line k stop) [] (record { event = tt; outs = All-nil IsFrame }) (All-nil IsCore))
 

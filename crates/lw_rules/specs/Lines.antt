@@ -1,5 +1,5 @@
 -- The lines of a transcript that the entries of a history are written as, and back.
-use Rattle.std.specs.Prelude.{ℕ, ◌+◌, List, [], ◌∷◌, sum_by, length}
+use Rattle.std.specs.Prelude.{ℕ, ◌+◌, false, List, [], ◌∷◌, sum_by, length}
 use Rattle.lw_core.specs.declared.event.Event.{Event}
 use Rattle.lw_core.specs.declared.event.Event.TheVariants.{Frame, Stop}
 use Rattle.lw_core.specs.declared.event.Reply.{Reply}
@@ -48,6 +48,12 @@ event_in StopLine = Stop
 abbrev pub reply_in : ReplyLine → Reply
 reply_in OkLine = Done
 
--- the entry that a core line stands for
+-- the entry that a core line stands for: one for which RAM wasn't short
 abbrev pub entry_in : CoreLine → Entry
-entry_in line = record { actor = line.actor; event = event_in line.event; frames = line.outs; reply = reply_in line.reply }
+entry_in line = record {
+  actor = line.actor;
+  event = event_in line.event;
+  short = false;
+  frames = line.outs;
+  reply = reply_in line.reply;
+}

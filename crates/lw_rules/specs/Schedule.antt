@@ -1,5 +1,5 @@
 -- The serial schedule: all actors of a script on one thread, turn by turn. The driver is actor 0.
-use Rattle.std.specs.Prelude.{ℕ, ◌+◌, List, [], ◌∷◌, ◌++◌, length, map}
+use Rattle.std.specs.Prelude.{ℕ, ◌+◌, false, List, [], ◌∷◌, ◌++◌, length, map}
 use Rattle.lw_core.specs.declared.event.Event.{Event}
 use Rattle.lw_core.specs.declared.event.Event.TheVariants.{Frame, Stop as StopEvent}
 use Rattle.lw_core.specs.declared.event.Entry.{Entry}
@@ -32,10 +32,10 @@ pub record Configuration : Type 0 where
 abbrev pub beginning : Script → List (List ℕ) → Configuration
 beginning script frames = record { state = opening script.net (limits_of script.profile); left = frames; entries = [] }
 
--- the entries of events that an actor makes one after another
+-- the entries of events that an actor makes one after another, for which RAM isn't short
 abbrev pub entries_of : State → ℕ → List (Event (List ℕ)) → List Entry
 entries_of s actor [] = []
-entries_of s actor (event ∷ events) = entry_of s actor event ∷ entries_of (step s event).state actor events
+entries_of s actor (event ∷ events) = entry_of s actor event false ∷ entries_of (step s event false).state actor events
 
 -- events are made by an actor, one after another
 abbrev pub made : Configuration → ℕ → List (Event (List ℕ)) → Configuration

@@ -1,6 +1,7 @@
 pub mod InputLemmas
 pub mod OutputLemmas
 pub mod Feeding
+pub mod PlainCore
 pub mod OneThread
 pub mod Fronts
 pub mod Forms

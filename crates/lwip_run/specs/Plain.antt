@@ -1,5 +1,5 @@
 -- Calls that are made directly on a core: each is one turn of the serial schedule.
-use Rattle.std.specs.Prelude.{ℕ, ◌≡◌, ◌++◌, Bool, List, [], ◌∷◌, length, map}
+use Rattle.std.specs.Prelude.{ℕ, ◌≡◌, ◌++◌, ◌^◌, ◌<◌, Bool, List, [], ◌∷◌, length, map, All}
 use Rattle.lw_core.specs.declared.event.Event.TheVariants.{Frame}
 use Rattle.lw_script.specs.declared.parts.Call.{Call}
 use Rattle.lw_transcript.specs.declared.lines.Evidence.{Evidence}
@@ -8,6 +8,15 @@ use Rattle.lw_transcript.specs.declared.lines.Outcome.TheVariants.{Fed}
 use Rattle.lw_actors.specs.declared.api.Step.{Step}
 use Rattle.lw_actors.specs.declared.api.Step.TheVariants.{Did}
 use Rattle.lw_rules.specs.Schedule.{Configuration, Turn, made, named_from, turn}
+
+-- octets so few that a payload may have them
+abbrev pub IsBody : List ℕ → Type 0
+IsBody octets = length octets < 2 ^ 32
+
+-- the payloads that a core holds, and the frames that are left, are short enough
+pub record HasBodies {P : Type 0} (held : List P) (octets : P → List ℕ) (left : List (List ℕ)) : Type 0 where
+  pub kept : All (λ p. IsBody (octets p)) held
+  pub frames : All IsBody left
 
 -- a call that gave what a turn of the schedule gives
 pub record IsTurn (t : Turn) (added : List Evidence) (done : Step) (after : Configuration) : Type 0 where

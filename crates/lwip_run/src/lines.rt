@@ -69,6 +69,7 @@ fn line(number: u32, entry: Entry) -> CoreLine
     let Entry {
         actor,
         event,
+        short: _,
         frames,
         reply,
     } = entry;

@@ -1,5 +1,6 @@
-ghost use Rattle.std.specs.Prelude.{◌≡◌, [], IfOk};
+ghost use Rattle.std.specs.Prelude.{◌≡◌, [], All, IfOk};
 ghost use Rattle.lw_rules.specs.Schedule.{serial_transcript};
+ghost use Rattle.lw_transcript.specs.Transcript.{IsFrame};
 
 use crate::lines::{all_calls, body};
 use crate::plain_api::PlainApi;
@@ -13,6 +14,7 @@ use std::alloc::{AllocError, Global};
 
 /// Runs a script on one thread, fed with these frames.
 pub fn serial(alloc: Global, script: &Script, frames: FrameList) -> Result<Transcript, AllocError>
+    requires { All IsFrame frames }
     ensures { IfOk result (λ t. t ≡ serial_transcript script.now frames) }
 {
     let core = Core::new(alloc, netif(alloc, script), script.profile.limits())?;

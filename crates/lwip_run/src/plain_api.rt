@@ -1,10 +1,12 @@
-ghost use Rattle.std.specs.Prelude.{◌≡◌, ◌+◌, ◌++◌, [], ◌∷◌, IfOk, MatchOption, length};
+ghost use Rattle.std.specs.Prelude.{◌≡◌, ◌+◌, ◌++◌, [], ◌∷◌, All, IfOk, IfSome, MatchOption, length};
+ghost use Rattle.lw_core.specs.Held.{payloads_in, text_of};
 ghost use Rattle.lw_rules.specs.Schedule.{made, named_from, turn};
-ghost use Rattle.lwip_run.specs.Plain.{FedAll, TakesFrame};
+ghost use Rattle.lwip_run.specs.Plain.{FedAll, IsBody, TakesFrame};
 
 use lw_actors::{Api, Step};
 use lw_base::{FrameList, Octets};
 use lw_core::{Core, Entry, Event};
+use lw_payload::Payload;
 use lw_script::Call;
 use lw_transcript::{Evidence, Outcome};
 use std::alloc::{AllocError, Global};
@@ -15,7 +17,7 @@ use std::vec::IntoIter;
 /// of the serial schedule.
 #[derive(Drop)]
 pub struct PlainApi {
-    core: Core,
+    core: Core<Vec<u8>>,
     left: IntoIter<Octets>,
     entries: Vec<Entry>,
 }
@@ -23,16 +25,21 @@ pub struct PlainApi {
 impl Model for PlainApi {
     ghost use Rattle.std.specs.Vec.Iter.{into_iter_items};
     ghost use Rattle.lw_rules.specs.Schedule.{Configuration};
+    ghost use Rattle.lwip_run.specs.Plain.{HasBodies};
 
     ghost Value = { Configuration };
 
-    ghost view = { λ a. record { state = a.core; left = into_iter_items a.left; entries = a.entries.items } };
+    ghost view = { λ a. record { state = a.core.state; left = into_iter_items a.left; entries = a.entries.items } };
+
+    ghost invariant = { λ a. HasBodies a.core.held (λ v. v.items) (into_iter_items a.left) };
 }
 
 impl PlainApi {
     /// A core that has made no event yet, and the frames that are to be fed to it.
-    pub fn new(alloc: Global, core: Core, frames: FrameList) -> PlainApi
-        ensures { result ≡ record { state = core; left = frames; entries = [] } }
+    pub fn new(alloc: Global, core: Core<Vec<u8>>, frames: FrameList) -> PlainApi
+        requires held { core.held ≡ [] }
+        requires short { All IsBody frames }
+        ensures { result ≡ record { state = core.state; left = frames; entries = [] } }
     {
         PlainApi {
             core,
@@ -50,7 +57,8 @@ impl PlainApi {
     }
 
     fn next_frame(&mut self) -> Option<Octets>
-        ensures { MatchOption result ((self.old.left ≡ []) × (self.new ≡ self.old)) (TakesFrame self.old self.new) }
+        ensures taken { MatchOption result ((self.old.left ≡ []) × (self.new ≡ self.old)) (TakesFrame self.old self.new) }
+        ensures short { IfSome result IsBody }
     {
         self.left.next()
     }
@@ -62,10 +70,11 @@ impl PlainApi {
     }
 
     /// Makes one event and answers the number of its entry, counted from 1.
-    fn make(&mut self, alloc: Global, actor: u32, event: Event<Octets>) -> Result<u32, AllocError>
-        ensures { IfOk result (λ n. (self.new ≡ made self.old actor (event ∷ [])) × (n ≡ length self.old.entries + 1)) }
+    fn make(&mut self, alloc: Global, actor: u32, event: Event<Vec<u8>>) -> Result<u32, AllocError>
+        requires { All (λ v. IsBody v.items) (payloads_in event) }
+        ensures { IfOk result (λ n. (self.new ≡ made self.old actor (text_of ⟦<Vec<u8> as Payload>⟧.seen event ∷ [])) × (n ≡ length self.old.entries + 1)) }
     {
-        let (entry, _) = match self.core.step(alloc, actor, event) {
+        let (entry, _) = match self.core.step(alloc, actor, event, &mut ()) {
             Ok(made) => made,
             Err((none, _)) => return Err(none),
         };
@@ -84,7 +93,7 @@ impl PlainApi {
     {
         let count = u32::try_from(self.left()).map_err(|_| AllocError)?;
         while let Some(octets) = self.next_frame() {
-            let number = self.make(alloc, actor, Event::Frame(octets))?;
+            let number = self.make(alloc, actor, Event::Frame(octets.into_vec()))?;
             seen.push(Evidence::At(number))?;
         }
         Ok(Outcome::Fed(count))

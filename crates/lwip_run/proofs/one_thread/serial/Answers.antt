@@ -5,12 +5,13 @@ use Rattle.lw_core.specs.State.{State, opening}
 use Rattle.lw_script.specs.Parts.{limits_of}
 use Rattle.lw_rules.specs.Schedule.{Configuration, beginning}
 use Rattle.lwip_run.proofs.OneThread.{run_is_serial}
+use Rattle.lwip_run.proofs.PlainCore.{frames_bodies}
 use Rattle.lwip_run.proofs.one_thread.serial.Goals as goal
 
 pub returns : goal.returns
 returns c =
-    let core : c.in_ok-core.core ≡ opening c.args.script.now.net (limits_of c.args.script.now.profile) =
-    c.in_ok-core.ensures
+    let core : c.in_ok-core.core.state ≡ opening c.args.script.now.net (limits_of c.args.script.now.profile) =
+    c.in_ok-core.ensures.state
     ∙ ap (λ (net : Net). opening net c.limits.result) c.netif.ensures.net
     ∙ ap (λ (limits : Limits). opening c.args.script.now.net limits) c.limits.ensures in
     let begins : c.new-api.result ≡ beginning c.args.script.now c.args.frames =
@@ -20,3 +21,6 @@ returns c =
     c.remove.result c.into_entries.result.items c.deref.result.now c.into_vec-done.result.items c.in_ok-body.body
     begins c.in_ok-progress.ensures c.remove.ensures.value c.into_vec-done.ensures c.into_entries.ensures
     (c.deref.ensures.value ∙ c.in_ok-calls.ensures) c.in_ok-body.ensures
+
+pub new-api-requires-clause-short : goal.new-api-requires-clause-short
+new-api-requires-clause-short c = frames_bodies c.args.frames c.requires
