@@ -1,7 +1,8 @@
 #!/usr/bin/env python3
-"""Runs `lwip serial` on captures of ARP requests, each from a sender of its own, and of ICMP echo requests with 56
-and 1,472 octets of data, and prints for each the seconds, the nanoseconds a frame, the ratio to the run of half as
-many frames, the peak memory in octets and its ratio to the octets of capture and transcript.
+"""Runs `lwip serial` on captures of ARP requests, each from a sender of its own, of ICMP echo requests with 56 and
+1,472 octets of data, and of echo requests with 3,000 octets in three fragments each, and prints for each the seconds,
+the nanoseconds a frame, the ratio to the run of half as many frames, the peak memory in octets and its ratio to the
+octets of capture and transcript.
 
 Where the environment variable LWIP_BENCH names a program that feeds a capture to real lwIP and prints the words
 `ns_min N`, the nanoseconds a frame, it is run on the same captures, and the ratio to it is printed too.
@@ -23,6 +24,8 @@ OWN_IP = bytes([10, 0, 0, 1])
 OWN_MAC = bytes([2, 0, 0, 0, 0, 1])
 PEER_IP = bytes([10, 0, 0, 2])
 PEER_MAC = bytes([2, 0, 0, 0, 0, 2])
+# more fragments follow (RFC 791)
+MORE = 0x2000
 
 
 def arp_request(sender_ip, sender_mac):
@@ -45,22 +48,36 @@ def checksum(octets):
     return 0xFFFF - total
 
 
-def echo_request(octets):
-    """An ICMP echo request (RFC 792) from the peer, with so many octets of data."""
+def echo_message(octets):
+    """The message of an ICMP echo request (RFC 792), with so many octets of data."""
     data = bytes(place % 251 for place in range(octets))
     message = struct.pack(">BBHHH", 8, 0, 0, 0x1234, 1) + data
-    message = message[:2] + struct.pack(">H", checksum(message)) + message[4:]
-    head = struct.pack(">BBHHHBBH", 0x45, 0, 20 + len(message), 1, 0, 64, 1, 0) + PEER_IP + OWN_IP
+    return message[:2] + struct.pack(">H", checksum(message)) + message[4:]
+
+
+def packet(data, identification, fragment=0):
+    """A frame from the peer with a packet of ICMP; `fragment` is the word of its flags and offset (RFC 791)."""
+    head = struct.pack(">BBHHHBBH", 0x45, 0, 20 + len(data), identification, fragment, 64, 1, 0) + PEER_IP + OWN_IP
     head = head[:10] + struct.pack(">H", checksum(head)) + head[12:]
-    return OWN_MAC + PEER_MAC + b"\x08\x00" + head + message
+    return OWN_MAC + PEER_MAC + b"\x08\x00" + head + data
 
 
 def echo_requests(count, octets):
     """An ARP request of the peer, then echo requests; frames count the first too."""
-    request = echo_request(octets)
+    request = packet(echo_message(octets), 1)
     yield arp_request(PEER_IP, PEER_MAC)
     for _ in range(count - 1):
         yield request
+
+
+def echo_fragments(count):
+    """An ARP request of the peer, then echo requests with 3,000 octets of data in three fragments each."""
+    message = echo_message(3000)
+    yield arp_request(PEER_IP, PEER_MAC)
+    for number in range((count - 1) // 3):
+        yield packet(message[:1480], number, MORE)
+        yield packet(message[1480:2960], number, MORE | 1480 // 8)
+        yield packet(message[2960:], number, 2960 // 8)
 
 
 # what is measured: a name, how the frames are made, and how many
@@ -68,6 +85,7 @@ KINDS = [
     ("ARP requests", arp_requests, [25_000, 50_000, 100_000, 200_000]),
     ("echo requests, 56 octets", lambda count: echo_requests(count, 56), [25_000, 50_000, 100_000]),
     ("echo requests, 1,472 octets", lambda count: echo_requests(count, 1472), [2_500, 5_000, 10_000]),
+    ("fragments of echo requests, 3,000 octets", echo_fragments, [1 + 3 * 833, 1 + 3 * 1_666, 1 + 3 * 3_332]),
 ]
 
 

@@ -1,7 +1,11 @@
 use crate::echo_cases::ECHO_CASES;
 use crate::exchange::Exchange;
+use crate::overlap_cases::OVERLAP_CASES;
+use crate::reassembly_cases::REASSEMBLY_CASES;
+use crate::taken_cases::TAKEN_CASES;
 use crate::unreachable_cases::UNREACHABLE_CASES;
 use crate::waiting_cases::WAITING_CASES;
+use crate::whole_cases::WHOLE_CASES;
 use std::alloc::Global;
 use std::process::Abort;
 use std::test::Fail;
@@ -51,5 +55,29 @@ fn answers_that_wait(rt: HostRuntime) -> Result<(), Fail> {
 #[test]
 fn what_is_unreachable(rt: HostRuntime) -> Result<(), Fail> {
     assert_eq!(rt; each(&rt, rt.alloc(), UNREACHABLE_CASES)?, 20);
+    Ok(())
+}
+
+#[test]
+fn requests_in_fragments(rt: HostRuntime) -> Result<(), Fail> {
+    assert_eq!(rt; each(&rt, rt.alloc(), REASSEMBLY_CASES)?, 22);
+    Ok(())
+}
+
+#[test]
+fn fragments_that_are_taken(rt: HostRuntime) -> Result<(), Fail> {
+    assert_eq!(rt; each(&rt, rt.alloc(), TAKEN_CASES)?, 29);
+    Ok(())
+}
+
+#[test]
+fn fragments_that_are_dropped(rt: HostRuntime) -> Result<(), Fail> {
+    assert_eq!(rt; each(&rt, rt.alloc(), OVERLAP_CASES)?, 31);
+    Ok(())
+}
+
+#[test]
+fn datagrams_in_fragments(rt: HostRuntime) -> Result<(), Fail> {
+    assert_eq!(rt; each(&rt, rt.alloc(), WHOLE_CASES)?, 31);
     Ok(())
 }

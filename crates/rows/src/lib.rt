@@ -13,10 +13,18 @@ mod exchange;
 #[cfg(test)]
 mod narrow;
 #[cfg(test)]
+mod overlap_cases;
+#[cfg(test)]
 mod program;
+#[cfg(test)]
+mod reassembly_cases;
+#[cfg(test)]
+mod taken_cases;
 #[cfg(test)]
 mod tests;
 #[cfg(test)]
 mod unreachable_cases;
 #[cfg(test)]
 mod waiting_cases;
+#[cfg(test)]
+mod whole_cases;
