@@ -4,5 +4,6 @@ pub mod Puts
 pub mod HoldsLaws
 pub mod Joins
 pub mod Places
+pub mod Searches
 pub mod RunsLaws
 pub mod Texts

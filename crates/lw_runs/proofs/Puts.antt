@@ -13,10 +13,10 @@ use Rattle.lw_runs.specs.Lists.{put}
 use Rattle.lw_runs.specs.declared.run.Run.{Run}
 use Rattle.lw_runs.proofs.Spreads.{touches, with-behind, with-before}
 
-less : (m n : ℕ) → m < n → nat_lt m n ≡ true
+pub less : (m n : ℕ) → m < n → nat_lt m n ≡ true
 less m n h = grind (arith, nat_tests)
 
-not_less : (m n : ℕ) → n ≤ m → nat_lt m n ≡ false
+pub not_less : (m n : ℕ) → n ≤ m → nat_lt m n ≡ false
 not_less m n h = grind (arith, nat_tests)
 
 neither : (a b : Bool) → (a || b) ≡ false → (a ≡ false) × (b ≡ false)

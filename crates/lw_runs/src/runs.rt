@@ -1,8 +1,8 @@
-ghost use Rattle.std.specs.Prelude.{◌≡◌, ℕ, ◌+◌, ◌^◌, ◌<◌, ◌≤◌, List, [], ◌∷◌, ◌++◌, false, length, vec_capacity, if◌then◌else◌, nat_lt, ◌&&◌, true, option_to_list, position, unwrap_or, IsNone, IfOk, IfSome, OnOk, OnErr, take, drop, flat_map};
+ghost use Rattle.std.specs.Prelude.{◌≡◌, ℕ, ◌+◌, ◌^◌, ◌<◌, ◌≤◌, List, [], ◌∷◌, ◌++◌, false, length, vec_capacity, if◌then◌else◌, nat_lt, nat_le, ◌&&◌, true, option_to_list, IsNone, IfOk, IfSome, OnOk, OnErr, take, drop, flat_map};
 ghost use Rattle.std.specs.List.{All, list_any, position_or_len};
 ghost use Rattle.lw_runs.specs.Positions.{overlaps, octets_in, with_octets};
 ghost use Rattle.lw_runs.specs.Kept.{Holds, parts_of, length_of};
-ghost use Rattle.lw_runs.specs.Runs.{bodies_of, FirstHasRoom};
+ghost use Rattle.lw_runs.specs.Runs.{bodies_of, FirstHasRoom, InOrder};
 ghost use Rattle.lw_runs.specs.Lists.{put, text_of, OneFamily, FirstChanged, FirstHasRoomFor};
 
 use crate::Run;
@@ -185,31 +185,33 @@ impl<P: Payload> Runs<P> {
     }
 }
 
-/// Whether a run has a position from `from` on, below `to`.
-fn any_between<P>(runs: &[Run<P>], from: u32, to: u32) -> bool
-    ensures { result ≡ list_any (λ r. nat_lt r.at to && nat_lt from r.end) runs.now }
-{
-    runs.iter().any(|r| r.at < to && from < r.end)
-}
-
-/// The place of the first run behind a position, where there is one.
-fn first_behind<P>(runs: &[Run<P>], from: u32) -> Option<usize>
-    ensures { result ≡ position (λ r. nat_lt from r.at) runs.now }
-{
-    runs.iter().position(|r| from < r.at)
-}
-
-/// The place at which a run that begins at a position stands among others.
-fn place_of<P>(runs: &[Run<P>], from: u32) -> usize
+/// How many runs begin at a position or before it: the place of one more run that begins there.
+fn place_of<P: Payload>(runs: &[Run<P>], from: u32) -> usize
+    requires { InOrder P.seen 0 runs.now }
     ensures value { result ≡ position_or_len (λ r. nat_lt from r.at) runs.now }
     ensures within { result ≤ length runs.now }
 {
-    first_behind(runs, from).unwrap_or(runs.len())
+    runs.partition_point(
+        |r: &Run<P>| -> bool
+            ensures { result ≡ nat_le r.now.at from }
+        { r.at <= from },
+    )
+}
+
+/// Whether a run has a position from `from` on, below `to`: the last that begins below `to` is the one that ends last.
+fn any_between<P: Payload>(runs: &[Run<P>], from: u32, to: u32) -> bool
+    requires some { from < to }
+    requires order { InOrder P.seen 0 runs.now }
+    ensures { result ≡ list_any (λ r. nat_lt r.at to && nat_lt from r.end) runs.now }
+{
+    let place = place_of(runs, to - 1);
+    place > 0 && from < runs[place - 1].end
 }
 
 /// Puts a run in among others at its place.
-fn put_in<P>(runs: &mut Vec<Run<P>>, run: Run<P>)
-    requires { length runs.old.items < vec_capacity runs.old }
+fn put_in<P: Payload>(runs: &mut Vec<Run<P>>, run: Run<P>)
+    requires order { InOrder P.seen 0 runs.old.items }
+    requires room { length runs.old.items < vec_capacity runs.old }
     ensures { runs.new.items ≡ put run runs.old.items }
 {
     let place = place_of(runs, run.at);

@@ -1,14 +1,9 @@
-use Rattle.std.proofs.Common.{arith, ◌≡◌, nat_lt}
-use Rattle.std.specs.List.{position_or_len}
-use Rattle.lw_runs.proofs.Places.{place_or_end, place-le}
+use Rattle.std.proofs.Common.{nat_le, rules}
+use Rattle.std.proofs.lemmas.Fn.{always_returns_same}
+use Rattle.lw_runs.proofs.Searches.{parted, place_is}
 use Rattle.lw_runs.proofs.runs.place_of.Goals as goal
 
 pub returns-clause-value : goal.returns-clause-value
-returns-clause-value g c = let e = place_or_end (λ r. nat_lt c.args.from r.at) c.args.runs.now in cc
-
-pub returns-clause-within : goal.returns-clause-within
-returns-clause-within g c =
-    let e = place_or_end (λ r. nat_lt c.args.from r.at) c.args.runs.now in
-    let most = place-le (λ r. nat_lt c.args.from r.at) c.args.runs.now in
-    let is : c.unwrap_or.result ≡ position_or_len (λ r. nat_lt c.args.from r.at) c.args.runs.now = cc in
-    omega arith
+returns-clause-value g c =
+    place_is c.args.runs.now c.args.from c.partition_point.result c.partition_point.ensures.bound
+    (c.partition_point.ensures.partitioned (λ r. nat_le r.at c.args.from) (always_returns_same _ _ _ (λ a r q k. search rules)) (parted g.P.Payload.seen 0 c.args.runs.now c.args.from c.requires))
