@@ -1,0 +1,12 @@
+mod Joined
+mod Lists
+mod Cutting
+mod Rewriting
+mod Homes
+mod Sharing
+mod Copying
+mod Taken
+mod Tried
+mod Freed
+mod Made
+mod Homing

@@ -1,0 +1,355 @@
+-- Pbufs that are taken from a seat one after another.
+use Rattle.std.proofs.Common.{◌≡◌, ℕ, ◌+◌, ◌-◌, ◌<◌, ◌≤◌, min, Bool, true, false, cond, ◌&&◌, List, [], ◌∷◌, ◌++◌, length, map, All, Option, Some, None, refl, sym, ap, ◌∙◌, subst, arith, append_assoc, append-nil, length-append, eqb, eq-eqb, eqb-true}
+use Rattle.std.specs.Option.{IfSome, IsSome, IsNone}
+use Rattle.std.specs.Prelude.{◌↔◌}
+use Rattle.std.proofs.lemmas.Bool.{false≢true}
+use Rattle.std.proofs.lemmas.List.Sums.{sum_by_push}
+use Rattle.std.proofs.lemmas.List.Elements.{All-push, All-nil, All-cons}
+use mathlib.Core.Logic.{dite}
+use native.Mathlib.Decide.{dec_le}
+use Rattle.atomic_table.specs.Seated.{TableId}
+use Rattle.lw_payload.specs.declared.kinds.Kind.{Kind}
+use Rattle.lw_payload.specs.declared.kinds.Kind.TheVariants.{Ram, Pool, Rom, Ref}
+use Rattle.lw_payload.specs.Views.{Slot, pbufs_of}
+use Rattle.pbuf_counts.specs.Owners.{claim_weight, first_adds}
+use Rattle.pbuf_counts.specs.Holders.{Known, owner_of}
+use Rattle.pbuf_seats.specs.declared.owner.Owner.{Owner}
+use Rattle.pbuf_seats.specs.declared.owner.Owner.TheVariants.{Kept, Counted}
+use Rattle.pbuf_seats.specs.Owners.{row_of, weight_of, adds_of}
+use Rattle.pbuf_seats.specs.Kept.{counts_of, rows_of, row_at, number_of, is_at}
+use Rattle.pbuf_seats.specs.Seats.{SeatSeen, IsInUse}
+use Rattle.lw_pbuf.specs.Parts.{Part}
+use Rattle.lw_pbuf.specs.Chains.{joined, all_own, rows_in, weight_in, IsUnder}
+use Rattle.lw_pbuf.specs.Takes.{concat, claim_of, claims_in, is_counted, places_of, free_in, Gives, GivesNone, IsTaken, AreTaken, IsTried, AreTried, AllTried}
+use Rattle.lw_pbuf.specs.Makes.{body_of, longest_of}
+use Rattle.lw_pbuf.proofs.Tried.{times-here, missed-here, claims_none, on_true, on_false, tried_none, tried_both, tried_all}
+
+-- Bodies
+
+concat-push : {V : Type 0} (f : V → List ℕ) (bs : List V) (v : V) → concat (map f (bs ++ v ∷ [])) ≡ concat (map f bs) ++ f v
+concat-push f [] v = append-nil (f v)
+concat-push f (b ∷ bs) v = ap (λ (l : List ℕ). f b ++ l) (concat-push f bs v) ∙ sym (append_assoc (f b) (concat (map f bs)) (f v))
+
+-- one body more
+pub bodies_more : {V : Type 0} (f : V → List ℕ) (bs new : List V) (v : V) (front back rest octets : List ℕ) → new ≡ bs ++ v ∷ [] → f v ≡ front → front ++ back ≡ rest → concat (map f bs) ++ rest ≡ octets → concat (map f new) ++ back ≡ octets
+bodies_more f bs new v front back rest octets is here cut so_far =
+    ap (λ (l : List _). concat (map f l) ++ back) is ∙ (ap (λ (l : List ℕ). l ++ back) (concat-push f bs v) ∙ (append_assoc (concat (map f bs)) (f v) back ∙ (ap (λ (l : List ℕ). concat (map f bs) ++ (l ++ back)) here ∙ (ap (λ (l : List ℕ). concat (map f bs) ++ l) cut ∙ so_far))))
+
+-- the octets behind a body take one pbuf less
+pub one_body : (kind : Kind) (n m : ℕ) → 0 < n → n ≤ longest_of kind → m ≡ n - min n (body_of kind) → pbufs_of kind n ≡ 1 + pbufs_of kind m
+one_body Ram n m some fits is = omega arith
+one_body Pool n m some fits is = omega arith
+one_body Rom n m some fits is = omega arith
+one_body Ref n m some fits is = omega arith
+
+-- Kinds of counts
+
+pub counted_same : (h k : SeatSeen) (kind : Kind) → ((j : Kind) → length (counts_of j k.kept) ≡ length (counts_of j h.kept)) → is_counted k kind ≡ is_counted h kind
+counted_same h k Ram same = refl
+counted_same h k Pool same = ap (λ (n : ℕ). eqb n 0) (same Pool)
+counted_same h k Rom same = refl
+counted_same h k Ref same = refl
+
+pub places_same : (h k : SeatSeen) (kind : Kind) → ((j : Kind) → length (counts_of j k.kept) ≡ length (counts_of j h.kept)) → k.holder.table ≡ h.holder.table → places_of k kind ≡ places_of h kind
+places_same h k kind same table =
+    let chosen : (b c : Bool) (x y x' y' : ℕ) → c ≡ b → x' ≡ x → y' ≡ y → cond c x' y' ≡ cond b x y = λ b c x y x' y' e f g i. cond (e i) (f i) (g i) in
+    chosen (is_counted h kind) (is_counted k kind) _ _ _ _ (counted_same h k kind same) (ap (λ (t : TableId). t.words) table) (same kind)
+
+-- an atomic count is one of POOL
+pub counted_pool : (h : SeatSeen) (kind : Kind) → is_counted h kind ≡ true → kind ≡ Pool
+counted_pool h Ram e = absurd (false≢true e)
+counted_pool h Pool e = refl
+counted_pool h Rom e = absurd (false≢true e)
+counted_pool h Ref e = absurd (false≢true e)
+
+kind_of_number : (a b : Kind) → number_of a ≡ number_of b → a ≡ b
+kind_of_number Ram Ram e = refl
+kind_of_number Pool Pool e = refl
+kind_of_number Rom Rom e = refl
+kind_of_number Ref Ref e = refl
+kind_of_number Ram Pool e = absurd (omega arith)
+kind_of_number Ram Rom e = absurd (omega arith)
+kind_of_number Ram Ref e = absurd (omega arith)
+kind_of_number Pool Ram e = absurd (omega arith)
+kind_of_number Pool Rom e = absurd (omega arith)
+kind_of_number Pool Ref e = absurd (omega arith)
+kind_of_number Rom Ram e = absurd (omega arith)
+kind_of_number Rom Pool e = absurd (omega arith)
+kind_of_number Rom Ref e = absurd (omega arith)
+kind_of_number Ref Ram e = absurd (omega arith)
+kind_of_number Ref Pool e = absurd (omega arith)
+kind_of_number Ref Rom e = absurd (omega arith)
+
+pub own_row : (kind : Kind) (place : ℕ) → row_at kind place record { kind = kind; place = place } ≡ 1
+own_row kind place = λ i. cond (eq-eqb (number_of kind) (number_of kind) refl i && eq-eqb place place refl i) 1 0
+
+-- a row of a pbuf is one of its kind
+row_kind : (b c : Bool) (a kind : Kind) → eqb (number_of a) (number_of kind) ≡ b → 0 < cond {A = ℕ} (b && c) 1 0 → a ≡ kind
+row_kind true c a kind e some = kind_of_number a kind (eqb-true (number_of a) (number_of kind) e)
+row_kind false c a kind e some = absurd (omega arith)
+
+-- One pbuf
+
+-- the seat after a claim that got its pbuf
+abbrev after_claim : SeatSeen → ℕ → SeatSeen
+after_claim h place = record h { holder = record h.holder { weight = h.holder.weight - claim_weight; got = place ∷ h.holder.got }; claimed = h.claimed + 1 }
+
+claimed_here : (h k : SeatSeen) (kind : Kind) (place : ℕ) (o : Owner) → o ≡ Counted (owner_of h.holder.table place first_adds claim_weight) → k ≡ after_claim h place → k.holder.weight + weight_of o ≡ h.holder.weight → is_counted h kind ≡ true → IsTaken h k kind o
+claimed_here h k kind place o is after sum counted = record {
+  gives = record {
+    more = λ s. let a = ap (λ (x : SeatSeen). rows_of x.kept s) after in let r = ap (λ (x : Owner). row_of x s) is in omega arith;
+    less = sum;
+    table = ap (λ (x : SeatSeen). x.holder.table) after;
+    right = ap (λ (x : SeatSeen). x.holder.rights) after;
+    sizes = λ j. ap (λ (x : SeatSeen). length (counts_of j x.kept)) after;
+    makes = ap (λ (x : SeatSeen). x.makes) after;
+    splits = ap (λ (x : SeatSeen). x.splits) after;
+    claimed = let a = ap (λ (x : SeatSeen). x.claimed) after in let c = ap claim_of is in omega arith;
+    got = let a = ap (λ (x : SeatSeen). length x.holder.got) after in let c = ap claim_of is in omega arith;
+  };
+  under = subst (λ (x : Owner). IsUnder h.holder.table x) (sym is) refl;
+  adds = ap adds_of is;
+  rows = λ s some. absurd (let r = ap (λ (x : Owner). row_of x s) is in omega arith);
+  kept = λ off. absurd (false≢true (sym off ∙ counted));
+  counted = λ _. (ap claim_of is, ap weight_of is);
+}
+
+pub claimed_is_taken : (h k : SeatSeen) (kind : Kind) (place : ℕ) (r : Option Owner) → IfSome r (λ o. o ≡ Counted (owner_of h.holder.table place first_adds claim_weight)) → (IsSome r → k ≡ after_claim h place)
+    → IfSome r (λ o. k.holder.weight + weight_of o ≡ h.holder.weight) → is_counted h kind ≡ true → IfSome r (λ o. IsTaken h k kind o)
+claimed_is_taken h k kind place None is after sum counted = tt
+claimed_is_taken h k kind place (Some o) is after sum counted = claimed_here h k kind place o is (after refl) sum counted
+
+pub claim_tried : (h k : SeatSeen) (kind : Kind) (place : ℕ) (r : Option Owner) → is_counted h kind ≡ true → (IsSome r → k ≡ after_claim h place) → (IsNone r → IsInUse h.holder place k.holder) → (IsNone r → k ≡ record h { holder = k.holder }) → IsTried h k kind place
+claim_tried h k kind place (Some o) counted after busy same = let e = after refl in record {
+  got = place ∷ [];
+  misses = [];
+  claims = record { gets = ap (λ (x : SeatSeen). x.holder.got) e; finds = ap (λ (x : SeatSeen). x.holder.found) e; in_use = All-nil (λ (m : ℕ × ℕ). 0 < m.1) };
+  used = on_true (is_counted k kind) _ _ (counted_same h k kind (λ j. ap (λ (x : SeatSeen). length (counts_of j x.kept)) e) ∙ counted) (let t = times-here place in omega arith);
+}
+claim_tried h k kind place None counted after busy same = let u = busy refl in let e = same refl in record {
+  got = [];
+  misses = (place, u.0) ∷ [];
+  claims = record { gets = ap (λ (x : Known). x.got) u.4; finds = ap (λ (x : Known). x.found) u.4; in_use = All-cons (λ (m : ℕ × ℕ). 0 < m.1) (place, u.0) [] u.1 (All-nil (λ (m : ℕ × ℕ). 0 < m.1)) };
+  used = on_true (is_counted k kind) _ _ (counted_same h k kind (λ j. ap (λ (x : SeatSeen). length (counts_of j x.kept)) e) ∙ counted) (let t = missed-here place u.0 in omega arith);
+}
+
+taken_here : (h k : SeatSeen) (kind : Kind) (place : ℕ) (o : Owner) → o ≡ Kept (record { kind = kind; place = place; adds = first_adds }) → ((s : Slot) → rows_of k.kept s ≡ rows_of h.kept s + row_of o s) → k ≡ record h { kept = k.kept }
+    → ((j : Kind) → length (counts_of j k.kept) ≡ length (counts_of j h.kept)) → free_in k kind + 1 ≡ free_in h kind → is_counted h kind ≡ false → IsTaken h k kind o
+taken_here h k kind place o is rows after sizes free off = record {
+  gives = record {
+    more = rows;
+    less = let a = ap (λ (x : SeatSeen). x.holder.weight) after in let c = ap weight_of is in omega arith;
+    table = ap (λ (x : SeatSeen). x.holder.table) after;
+    right = ap (λ (x : SeatSeen). x.holder.rights) after;
+    sizes = sizes;
+    makes = ap (λ (x : SeatSeen). x.makes) after;
+    splits = ap (λ (x : SeatSeen). x.splits) after;
+    claimed = let a = ap (λ (x : SeatSeen). x.claimed) after in let c = ap claim_of is in omega arith;
+    got = let a = ap (λ (x : SeatSeen). length x.holder.got) after in let c = ap claim_of is in omega arith;
+  };
+  under = subst (λ (x : Owner). IsUnder h.holder.table x) (sym is) tt;
+  adds = ap adds_of is;
+  rows = λ s some. (row_kind (eqb (number_of s.kind) (number_of kind)) (eqb s.place place) s.kind kind refl (let r = ap (λ (x : Owner). row_of x s) is in omega arith), off);
+  kept = λ _. (ap claim_of is, ap weight_of is, free);
+  counted = λ yes'. absurd (false≢true (sym off ∙ yes'));
+}
+
+pub kept_is_taken : (h k : SeatSeen) (kind : Kind) (place : ℕ) (r : Option Owner) → IfSome r (λ o. o ≡ Kept (record { kind = kind; place = place; adds = first_adds })) → IfSome r (λ o. (s : Slot) → rows_of k.kept s ≡ rows_of h.kept s + row_of o s)
+    → k ≡ record h { kept = k.kept } → ((j : Kind) → length (counts_of j k.kept) ≡ length (counts_of j h.kept)) → IfSome r (λ _. free_in k kind + 1 ≡ free_in h kind) → is_counted h kind ≡ false → IfSome r (λ o. IsTaken h k kind o)
+kept_is_taken h k kind place None is rows after sizes free off = tt
+kept_is_taken h k kind place (Some o) is rows after sizes free off = taken_here h k kind place o is rows after sizes free off
+
+pub kept_tried : (h k : SeatSeen) (kind : Kind) (place : ℕ) (r : Option Owner) → is_counted h kind ≡ false → (IsSome r ↔ (rows_of h.kept (record { kind = kind; place = place }) ≡ 0)) → IfSome r (λ o. o ≡ Kept (record { kind = kind; place = place; adds = first_adds }))
+    → IfSome r (λ o. (s : Slot) → rows_of k.kept s ≡ rows_of h.kept s + row_of o s) → k ≡ record h { kept = k.kept } → ((j : Kind) → length (counts_of j k.kept) ≡ length (counts_of j h.kept)) → (IsNone r → k ≡ h) → IsTried h k kind place
+kept_tried h k kind place (Some o) off found is rows after sizes same = record {
+  got = [];
+  misses = [];
+  claims = claims_none h.holder k.holder (ap (λ (x : SeatSeen). x.holder) after);
+  used = on_false (is_counted k kind) _ _ (counted_same h k kind sizes ∙ off)
+      (let s : Slot = record { kind = kind; place = place } in let r = rows s in let e = ap (λ (x : Owner). row_of x s) is in let one = own_row kind place in omega arith);
+}
+kept_tried h k kind place None off found is rows after sizes same = record {
+  got = [];
+  misses = [];
+  claims = claims_none h.holder k.holder (ap (λ (x : SeatSeen). x.holder) after);
+  used = on_false (is_counted k kind) _ _ (counted_same h k kind sizes ∙ off)
+      (let s : Slot = record { kind = kind; place = place } in let e = ap (λ (x : SeatSeen). rows_of x.kept s) (same refl) in dite (dec_le 1 (rows_of h.kept s)) (λ le. omega arith) (λ none. absurd (false≢true (found.1 (omega arith)))));
+}
+
+-- Several
+
+pub gives_grows : (h k : SeatSeen) (rows : Slot → ℕ) (weight claims : ℕ) → Gives h k rows weight claims → (s : Slot) → rows_of h.kept s ≤ rows_of k.kept s
+gives_grows h k rows weight claims g s = let m = g.more s in omega arith
+
+-- what was given out, and then more
+pub gives_both : (h k l : SeatSeen) (rows rows' all : Slot → ℕ) (weight weight' claims claims' more less : ℕ) → Gives h k rows weight claims → Gives k l rows' weight' claims' → ((s : Slot) → all s ≡ rows s + rows' s) → more ≡ weight + weight' → less ≡ claims + claims'
+    → Gives h l all more less
+gives_both h k l rows rows' all weight weight' claims claims' more less a b e f g = record {
+  more = λ s. let x = a.more s in let y = b.more s in let z = e s in omega arith;
+  less = let x = a.less in let y = b.less in omega arith;
+  table = b.table ∙ a.table;
+  right = b.right ∙ a.right;
+  sizes = λ j. b.sizes j ∙ a.sizes j;
+  makes = b.makes ∙ a.makes;
+  splits = b.splits ∙ a.splits;
+  claimed = let x = a.claimed in let y = b.claimed in omega arith;
+  got = let x = a.got in let y = b.got in omega arith;
+}
+
+-- nothing
+gives_nothing : (h k : SeatSeen) → k ≡ h → Gives h k (λ _. 0) 0 0
+gives_nothing h k same = record {
+  more = λ s. let e = ap (λ (x : SeatSeen). rows_of x.kept s) same in omega arith;
+  less = let e = ap (λ (x : SeatSeen). x.holder.weight) same in omega arith;
+  table = ap (λ (x : SeatSeen). x.holder.table) same;
+  right = ap (λ (x : SeatSeen). x.holder.rights) same;
+  sizes = λ j. ap (λ (x : SeatSeen). length (counts_of j x.kept)) same;
+  makes = ap (λ (x : SeatSeen). x.makes) same;
+  splits = ap (λ (x : SeatSeen). x.splits) same;
+  claimed = let e = ap (λ (x : SeatSeen). x.claimed) same in omega arith;
+  got = let e = ap (λ (x : SeatSeen). length x.holder.got) same in omega arith;
+}
+
+pub gives_none : (h k : SeatSeen) → k ≡ h → GivesNone h k
+gives_none h k same = record { gives = gives_nothing h k same; kept = ap (λ (x : SeatSeen). x.kept) same }
+
+-- a claim that found its pbuf in use gave nothing
+pub none_claimed : (h k : SeatSeen) (place : ℕ) → IsInUse h.holder place k.holder → k ≡ record h { holder = k.holder } → GivesNone h k
+none_claimed h k place u same = record {
+  gives = record {
+    more = λ s. let e = ap (λ (x : SeatSeen). rows_of x.kept s) same in omega arith;
+    less = let e = ap (λ (x : Known). x.weight) u.4 in omega arith;
+    table = ap (λ (x : Known). x.table) u.4;
+    right = ap (λ (x : Known). x.rights) u.4;
+    sizes = λ j. ap (λ (x : SeatSeen). length (counts_of j x.kept)) same;
+    makes = ap (λ (x : SeatSeen). x.makes) same;
+    splits = ap (λ (x : SeatSeen). x.splits) same;
+    claimed = let e = ap (λ (x : SeatSeen). x.claimed) same in omega arith;
+    got = let e = ap (λ (x : Known). length x.got) u.4 in omega arith;
+  };
+  kept = ap (λ (x : SeatSeen). x.kept) same;
+}
+
+pub then_none : (h k l : SeatSeen) → GivesNone h k → GivesNone k l → GivesNone h l
+then_none h k l a b = record {
+  gives = gives_both h k l (λ _. 0) (λ _. 0) (λ _. 0) 0 0 0 0 0 0 a.gives b.gives (λ s. omega arith) (omega arith) (omega arith);
+  kept = b.kept ∙ a.kept;
+}
+
+pub then_taken : (h k l : SeatSeen) (kind : Kind) (o : Owner) → GivesNone h k → IsTaken k l kind o → IsTaken h l kind o
+then_taken h k l kind o a t = let same = counted_same h k kind a.gives.sizes in record {
+  gives = gives_both h k l (λ _. 0) (row_of o) (row_of o) 0 (weight_of o) 0 (claim_of o) (weight_of o) (claim_of o) a.gives t.gives (λ s. omega arith) (omega arith) (omega arith);
+  under = subst (λ (u : TableId). IsUnder u o) a.gives.table t.under;
+  adds = t.adds;
+  rows = λ s some. let r = t.rows s some in (r.0, sym same ∙ r.1);
+  kept = λ off. let q = t.kept (same ∙ off) in let f = ap (λ (x : _). Rattle.pbuf_seats.specs.Kept.free_count (counts_of kind x)) a.kept in (q.0, q.1, let z = q.2 in omega arith);
+  counted = λ is. t.counted (same ∙ is);
+}
+
+-- Chains to be
+
+joined-push : (ps : List Part) (p : Part) → joined (ps ++ p ∷ []) ≡ joined ps ++ p.octets
+joined-push [] p = append-nil p.octets
+joined-push (x ∷ ps) p = ap (λ (l : List ℕ). x.octets ++ l) (joined-push ps p) ∙ sym (append_assoc x.octets (joined ps) p.octets)
+
+length-push : (ps : List Part) (p : Part) → length (ps ++ p ∷ []) ≡ length ps + 1
+length-push ps p = length-append ps (p ∷ [])
+
+own_both : (x y z : Bool) → x && y ≡ true → (y ≡ true → z ≡ true) → x && z ≡ true
+own_both true y z e f = f e
+own_both false y z e f = absurd (false≢true e)
+
+own-push : (ps : List Part) (p : Part) → all_own ps ≡ true → p.own ≡ true → all_own (ps ++ p ∷ []) ≡ true
+own-push [] p a b = rw b refl
+own-push (x ∷ ps) p a b = own_both x.own (all_own ps) (all_own (ps ++ p ∷ [])) a (λ e. own-push ps p e b)
+
+-- the owners of these parts were taken, and then that of one more
+pub taken_more : (h k l : SeatSeen) (kind : Kind) (ps : List Part) (p : Part) → AreTaken h k kind ps → IsTaken k l kind p.owner → AreTaken h l kind (ps ++ p ∷ [])
+taken_more h k l kind ps p a t =
+    let same = counted_same h k kind a.gives.sizes in
+    let n = length-push ps p in
+    let rows = λ (s : Slot). sum_by_push (λ (q : Part). row_of q.owner s) ps p in
+    let weight = sum_by_push (λ (q : Part). weight_of q.owner) ps p in
+    let claims = sum_by_push (λ (q : Part). claim_of q.owner) ps p in
+    record {
+      gives = gives_both h k l (rows_in ps) (row_of p.owner) (rows_in (ps ++ p ∷ [])) (weight_in ps) (weight_of p.owner) (claims_in ps) (claim_of p.owner) (weight_in (ps ++ p ∷ [])) (claims_in (ps ++ p ∷ [])) a.gives t.gives rows weight claims;
+      under = All-push (λ (q : Part). IsUnder h.holder.table q.owner) ps p a.under (subst (λ (u : TableId). IsUnder u p.owner) a.gives.table t.under);
+      adds = All-push (λ (q : Part). adds_of q.owner ≡ first_adds) ps p a.adds t.adds;
+      rows = λ s some. dite (dec_le 1 (rows_in ps s)) (λ old. a.rows s old) (λ off. let r = t.rows s (let e = rows s in omega arith) in (r.0, sym same ∙ r.1));
+      kept = λ off. let x = a.kept off in let y = t.kept (same ∙ off) in (let u = x.0 in let v = y.0 in omega arith, let u = x.1 in let v = y.1 in omega arith, let u = x.2 in let v = y.2 in omega arith);
+      counted = λ is. let x = a.counted is in let y = t.counted (same ∙ is) in (let u = x.0 in let v = y.0 in omega arith, let u = x.1 in let v = y.1 in omega arith);
+    }
+
+pub taken_none : (h k l : SeatSeen) (kind : Kind) (ps : List Part) → AreTaken h k kind ps → GivesNone k l → AreTaken h l kind ps
+taken_none h k l kind ps a e = record {
+  gives = gives_both h k l (rows_in ps) (λ _. 0) (rows_in ps) (weight_in ps) 0 (claims_in ps) 0 (weight_in ps) (claims_in ps) a.gives e.gives (λ s. omega arith) (omega arith) (omega arith);
+  under = a.under;
+  adds = a.adds;
+  rows = a.rows;
+  kept = λ off. let q = a.kept off in let f = ap (λ (x : _). Rattle.pbuf_seats.specs.Kept.free_count (counts_of kind x)) e.kept in (q.0, q.1, let z = q.2 in omega arith);
+  counted = a.counted;
+}
+
+taken_first : (h : SeatSeen) (kind : Kind) → AreTaken h h kind []
+taken_first h kind = record {
+  gives = gives_nothing h h refl;
+  under = All-nil (λ (q : Part). IsUnder h.holder.table q.owner);
+  adds = All-nil (λ (q : Part). adds_of q.owner ≡ first_adds);
+  rows = λ s some. absurd (omega arith);
+  kept = λ _. (refl, refl, omega arith);
+  counted = λ _. (refl, omega arith);
+}
+
+-- of the bodies `whole` the last, `rest`, have no pbuf yet; the seat h, which is k now, gave one for each of the others, at the turns below `turn`
+pub record Fills (h k : SeatSeen) (kind : Kind) (whole rest : List (List ℕ)) (parts : List Part) (places from turn : ℕ) : Type 0 where
+  pub taken : AreTaken h k kind parts
+  pub tried : AreTried h k kind places from turn
+  pub some : All (λ p. 0 < length p.octets) parts
+  pub own : all_own parts ≡ true
+  pub octets : joined parts ++ concat rest ≡ concat whole
+  pub count : length parts + length rest ≡ length whole
+
+-- an owner was taken for the next body
+pub fills_next : (h k l : SeatSeen) (kind : Kind) (whole rest more : List (List ℕ)) (parts new : List Part) (p : Part) (body : List ℕ) (places from turn turn' : ℕ)
+    → Fills h k kind whole rest parts places from turn → rest ≡ body ∷ more → IsTaken k l kind p.owner → AreTried k l kind places turn turn' → p.octets ≡ body → p.own ≡ true → 0 < length body → new ≡ parts ++ p ∷ []
+    → Fills h l kind whole more new places from turn'
+fills_next h k l kind whole rest more parts new p body places from turn turn' f is t tried same own some after = subst (λ (ps : List Part). Fills h l kind whole more ps places from turn') (sym after) record {
+  taken = taken_more h k l kind parts p f.taken t;
+  tried = tried_both h k l kind places from turn turn' f.tried tried (counted_same k l kind t.gives.sizes) (gives_grows k l _ _ _ t.gives);
+  some = All-push (λ (q : Part). 0 < length q.octets) parts p f.some (let e = ap length same in omega arith);
+  own = own-push parts p f.own own;
+  octets = ap (λ (x : List ℕ). x ++ concat more) (joined-push parts p) ∙ (append_assoc (joined parts) p.octets (concat more) ∙ (ap (λ (x : List ℕ). joined parts ++ (x ++ concat more)) same ∙ (ap (λ (x : List (List ℕ)). joined parts ++ concat x) (sym is) ∙ f.octets)));
+  count = let a = length-push parts p in let b = ap (λ (x : List (List ℕ)). length x) is in let c = f.count in omega arith;
+}
+
+pub fills_first : (h : SeatSeen) (kind : Kind) (whole rest : List (List ℕ)) (parts : List Part) (places from : ℕ) → rest ≡ whole → parts ≡ [] → Fills h h kind whole rest parts places from from
+fills_first h kind whole rest parts places from same none = subst (λ (ps : List Part). Fills h h kind whole rest ps places from from) (sym none) (subst (λ (r : List (List ℕ)). Fills h h kind whole r [] places from from) (sym same) record {
+  taken = taken_first h kind;
+  tried = tried_none h h kind places from refl;
+  some = All-nil (λ (q : Part). 0 < length q.octets);
+  own = refl;
+  octets = refl;
+  count = omega arith;
+})
+
+pub fills_last : (h k : SeatSeen) (kind : Kind) (whole rest : List (List ℕ)) (parts : List Part) (places from turn : ℕ) → Fills h k kind whole rest parts places from turn → length rest ≡ 0 → (joined parts ≡ concat whole) × (length parts ≡ length whole)
+fills_last h k kind whole [] parts places from turn f none = (sym (append-nil (joined parts)) ∙ f.octets, let c = f.count in omega arith)
+fills_last h k kind whole (x ∷ xs) parts places from turn f none = absurd (omega arith)
+
+-- no pbuf was left for the next body: all places were tried
+pub fills_short : (h k l : SeatSeen) (kind : Kind) (whole rest : List (List ℕ)) (parts : List Part) (places from turn end : ℕ) → Fills h k kind whole rest parts places from turn → GivesNone k l → AreTried k l kind places turn end
+    → places ≡ places_of h kind → from ≤ places → end ≡ from + places → AllTried h l kind
+fills_short h k l kind whole rest parts places from turn end f none tried is below all =
+    tried_all h l kind places from end (tried_both h k l kind places from turn end f.tried tried (counted_same k l kind none.gives.sizes) (gives_grows k l (λ _. 0) 0 0 none.gives)) is below all
+
+few_claims : (h k : SeatSeen) (kind : Kind) (ps : List Part) (b : Bool) → AreTaken h k kind ps → is_counted h kind ≡ b → claims_in ps ≡ cond b (length ps) 0
+few_claims h k kind ps true a e = (a.counted e).0
+few_claims h k kind ps false a e = (a.kept e).0
+
+chosen_most : (b : Bool) (n : ℕ) → cond b n 0 ≤ n
+chosen_most true n = omega arith
+chosen_most false n = omega arith
+
+-- no more claims than parts
+pub claims_most : (h k : SeatSeen) (kind : Kind) (ps : List Part) → AreTaken h k kind ps → claims_in ps ≤ length ps
+claims_most h k kind ps a = let e = few_claims h k kind ps (is_counted h kind) a refl in let m = chosen_most (is_counted h kind) (length ps) in omega arith

@@ -1,0 +1,38 @@
+use Rattle.std.proofs.Common.{rules, Bool, true, false, cond, ◌≡◌, ◌≤◌, ◌++◌, ◌∷◌, [], length, refl, arith}
+use mir.Val.{bool_byte}
+use Rattle.lw_pbuf.proofs.Freed.{frees_first, frees_owner, frees_next, frees_last}
+use Rattle.lw_pbuf.proofs.free.free_all.Goals as goal
+
+bit_small : (b : Bool) → bool_byte b ≤ 1
+bit_small true = omega arith
+bit_small false = omega arith
+
+bit : (b : Bool) → bool_byte b ≡ cond b 1 0
+bit true = refl
+bit false = refl
+
+pub loop-pbuf-init : goal.loop-pbuf-init
+loop-pbuf-init c = frees_first c.args.seat.now c.args.pbufs.items c.requires.under c.requires.listed c.requires.few
+
+pub give_up-requires : goal.give_up-requires
+give_up-requires c = let is : c.loop-pbuf.pbufs.items ≡ c.pop.new.self.items ++ c.in-Some.pbuf ∷ [] = search rules in
+    frees_owner c.args.seat.now c.loop-pbuf.seat c.args.seat.now.holder.table c.args.pbufs.items c.loop-pbuf.pbufs.items c.pop.new.self.items c.in-Some.pbuf c.loop-pbuf.ended c.loop-pbuf.invariant is
+
+pub overflow_add-ended : goal.overflow_add-ended
+overflow_add-ended c = let is : c.loop-pbuf.pbufs.items ≡ c.pop.new.self.items ++ c.in-Some.pbuf ∷ [] = search rules in
+    let b = bit_small c.give_up.result in let q = bit c.give_up.result in let e = c.from-ended.ensures in let d = c.give_up.ensures.ended in
+    let n = frees_next c.args.seat.now c.loop-pbuf.seat c.args.seat.now.holder.table c.args.pbufs.items c.loop-pbuf.pbufs.items c.pop.new.self.items c.in-Some.pbuf c.loop-pbuf.ended c.loop-pbuf.invariant is
+    c.give_up.new.seat c.from-ended.result c.give_up.ensures.spent c.give_up.ensures.back (omega arith) (omega arith) in let few = n.few in omega arith
+
+pub loop-pbuf-preserved : goal.loop-pbuf-preserved
+loop-pbuf-preserved c = let is : c.loop-pbuf.pbufs.items ≡ c.pop.new.self.items ++ c.in-Some.pbuf ∷ [] = search rules in
+    let b = bit_small c.give_up.result in let q = bit c.give_up.result in let e = c.from-ended.ensures in let d = c.give_up.ensures.ended in
+    frees_next c.args.seat.now c.loop-pbuf.seat c.args.seat.now.holder.table c.args.pbufs.items c.loop-pbuf.pbufs.items c.pop.new.self.items c.in-Some.pbuf c.loop-pbuf.ended c.loop-pbuf.invariant is
+    c.give_up.new.seat c.from-ended.result c.give_up.ensures.spent c.give_up.ensures.back (omega arith) (omega arith)
+
+pub returns : goal.returns
+returns c = let i = c.loop-pbuf.invariant in let none : length c.loop-pbuf.pbufs.items ≡ 0 = search rules in record {
+  spent = frees_last c.args.seat.now c.loop-pbuf.seat c.args.seat.now.holder.table c.args.pbufs.items c.loop-pbuf.pbufs.items c.loop-pbuf.ended i none;
+  ended = i.ends;
+  back = i.back;
+}

@@ -1,0 +1,8 @@
+use Rattle.lw_pbuf.proofs.Homes.{is_of, is_cut}
+use Rattle.lw_pbuf.proofs.payload.ChainPayload.cut_front.Goals as goal
+
+pub cut_front-requires-clause-of_seat : goal.cut_front-requires-clause-of_seat
+cut_front-requires-clause-of_seat c = is_of _ _ c.requires.of_home
+
+pub returns : goal.returns
+returns c = let e = c.cut_front.ensures in is_cut _ _ _ _ _ e.cut e.octets e.few e.room (is_of _ _ c.requires.of_home) e.of_seat

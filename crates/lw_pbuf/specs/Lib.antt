@@ -1,0 +1,8 @@
+pub mod Parts
+pub mod Bodies
+pub mod Chains
+pub mod Cuts
+pub mod Shares
+pub mod Takes
+pub mod Makes
+pub mod Homes

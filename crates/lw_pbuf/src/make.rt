@@ -1,0 +1,146 @@
+//! How a chain is made.
+ghost use Rattle.std.specs.Prelude.{◌≡◌, ◌+◌, ◌-◌, ◌^◌, ◌<◌, ◌≤◌, [], length, map, true, All, IfOk, IfErr, IsOk};
+ghost use Rattle.std.specs.Arc.{arc_value};
+ghost use Rattle.lw_payload.specs.declared.kinds.Kind.{Kind};
+ghost use Rattle.lw_payload.specs.Views.{pbufs_of};
+ghost use Rattle.lw_pbuf.specs.declared.make.AllocFault.{AllocFault};
+ghost use Rattle.lw_pbuf.specs.Chains.{IsOf};
+ghost use Rattle.lw_pbuf.specs.Takes.{concat, is_counted};
+ghost use Rattle.lw_pbuf.specs.Makes.{longest_of, granted_of, denied_of, IsAlloc, IsDenied, KeepsSeat};
+
+use crate::chain::Chain;
+use crate::free::free_all;
+use crate::pbuf::Pbuf;
+use crate::take::{bodies, fill};
+use lw_payload::Kind;
+use pbuf_counts::Counts;
+use pbuf_seats::PoolSeat;
+use smallvec::SmallVec;
+use std::alloc::{AllocError, Global};
+use std::sync::Arc;
+
+/// Why no chain was made.
+#[derive(Clone, Copy, Debug, PartialEq, Eq)]
+pub enum AllocFault {
+    /// Fewer pbufs of this kind had no owner than it takes.
+    PoolEmpty(Kind),
+    /// More octets than a chain of the kind can have.
+    TooLong,
+    NoMemory,
+}
+
+impl From<AllocError> for AllocFault {
+    ghost use Rattle.std.specs.Prelude.{◌≡◌};
+    ghost use Rattle.lw_pbuf.specs.declared.make.AllocFault.{AllocFault};
+
+    ghost from_gives = { λ _ fault. fault ≡ AllocFault.NoMemory };
+
+    fn from(_error: AllocError) -> AllocFault {
+        AllocFault::NoMemory
+    }
+}
+
+// So many octets a chain of the kind has at most.
+fn longest(kind: Kind) -> usize
+    ensures exact { result ≡ longest_of kind }
+    ensures small { result ≤ 65535 }
+{
+    match kind {
+        Kind::Ram => 1_600,
+        Kind::Pool | Kind::Rom | Kind::Ref => 65_535,
+    }
+}
+
+// Counts a make of POOL that is made.
+fn granted(seat: &mut PoolSeat, kind: Kind, octets: u32)
+    requires { kind ≡ Kind.Pool → seat.old.makes.made + seat.old.makes.refused < 2 ^ 64 - 1 }
+    ensures makes { seat.new.makes ≡ granted_of kind octets seat.old.makes }
+    ensures same { seat.new ≡ record seat.old { makes = seat.new.makes; claimed = seat.new.claimed } }
+    ensures settled { kind ≡ Kind.Pool → seat.new.claimed ≡ 0 }
+    ensures claimed { ¬ (kind ≡ Kind.Pool) → seat.new.claimed ≡ seat.old.claimed }
+    ensures grows { seat.old.makes.asked ≤ seat.new.makes.asked }
+{
+    match kind {
+        Kind::Pool => seat.granted(octets),
+        Kind::Ram | Kind::Rom | Kind::Ref => {}
+    }
+}
+
+// Counts one that is refused.
+fn denied(seat: &mut PoolSeat, kind: Kind, octets: u32)
+    requires { kind ≡ Kind.Pool → seat.old.makes.made + seat.old.makes.refused < 2 ^ 64 - 1 }
+    ensures makes { seat.new.makes ≡ denied_of kind octets seat.old.makes }
+    ensures same { seat.new ≡ record seat.old { makes = seat.new.makes; claimed = seat.new.claimed } }
+    ensures settled { kind ≡ Kind.Pool → seat.new.claimed ≡ 0 }
+    ensures claimed { ¬ (kind ≡ Kind.Pool) → seat.new.claimed ≡ seat.old.claimed }
+    ensures grows { seat.old.makes.asked ≤ seat.new.makes.asked }
+{
+    match kind {
+        Kind::Pool => seat.denied(octets),
+        Kind::Ram | Kind::Rom | Kind::Ref => {}
+    }
+}
+
+/// A chain of these octets in pbufs of the kind. It needs the right to claim where the kind is POOL and not kept.
+/// `TooLong` is looked at first.
+pub fn pbuf_alloc(
+    alloc: Global,
+    seat: &mut PoolSeat,
+    kind: Kind,
+    octets: &[u8],
+) -> Result<Chain, AllocFault>
+    requires right { is_counted seat.old kind ≡ true → seat.old.holder.rights ≡ 1 }
+    requires countable { kind ≡ Kind.Pool → seat.old.makes.made + seat.old.makes.refused < 2 ^ 64 - 1 }
+    requires settled { kind ≡ Kind.Pool → seat.old.claimed ≡ 0 }
+    ensures made { IfOk result (λ c. IsAlloc seat.old seat.new kind octets.now c) }
+    ensures of { IfOk result (λ c. IsOf seat.new c) }
+    ensures fits { IsOk result → length octets.now ≤ longest_of kind }
+    ensures empty { (k : Kind) → result ≡ Err (AllocFault.PoolEmpty k) → (k ≡ kind) × IsDenied seat.old seat.new kind (length octets.now) }
+    ensures empty_fits { (k : Kind) → result ≡ Err (AllocFault.PoolEmpty k) → length octets.now ≤ longest_of kind }
+    ensures too_long { result ≡ Err AllocFault.TooLong → (longest_of kind < length octets.now) × (seat.new ≡ seat.old) }
+    ensures no_memory { result ≡ Err AllocFault.NoMemory → seat.new ≡ seat.old }
+    ensures keeps { KeepsSeat seat.old seat.new kind (length octets.now) }
+{
+    if octets.len() > longest(kind) {
+        return Err(AllocFault::TooLong);
+    }
+    let counts = seat.counts()?;
+    let bodies = bodies(alloc, seat, kind, octets)?;
+    let pbufs = SmallVec::with_capacity(alloc, bodies.len())?;
+    chain_of(seat, kind, octets, counts, bodies, pbufs)
+}
+
+// A chain of bodies that hold the octets, each in a pbuf of the kind.
+fn chain_of(
+    seat: &mut PoolSeat,
+    kind: Kind,
+    octets: &[u8],
+    counts: Arc<Counts>,
+    bodies: SmallVec<Vec<u8>, 4>,
+    mut pbufs: SmallVec<Pbuf, 4>,
+) -> Result<Chain, AllocFault>
+    requires table { arc_value counts ≡ seat.old.holder.table }
+    requires fits { length octets.now ≤ longest_of kind }
+    requires small { length octets.now ≤ 65535 }
+    requires octets { concat (map (λ b. b.items) bodies.items) ≡ octets.now }
+    requires few { length bodies.items ≡ pbufs_of kind (length octets.now) }
+    requires some { All (λ b. 0 < length b.items) bodies.items }
+    requires short { All (λ b. length b.items < 2 ^ 32) bodies.items }
+    requires none { pbufs.items ≡ [] }
+    requires room { length bodies.items ≤ pbufs.capacity }
+    requires right { is_counted seat.old kind ≡ true → seat.old.holder.rights ≡ 1 }
+    requires countable { kind ≡ Kind.Pool → seat.old.makes.made + seat.old.makes.refused < 2 ^ 64 - 1 }
+    requires settled { kind ≡ Kind.Pool → seat.old.claimed ≡ 0 }
+    ensures made { IfOk result (λ c. IsAlloc seat.old seat.new kind octets.now c) }
+    ensures of { IfOk result (λ c. IsOf seat.new c) }
+    ensures empty { IfErr result (λ e. (e ≡ AllocFault.PoolEmpty kind) × IsDenied seat.old seat.new kind (length octets.now)) }
+    ensures keeps { KeepsSeat seat.old seat.new kind (length octets.now) }
+{
+    if fill(seat, kind, bodies, &mut pbufs) {
+        granted(seat, kind, octets.len() as u32);
+        return Ok(Chain::of(counts, pbufs));
+    }
+    free_all(pbufs, seat);
+    denied(seat, kind, octets.len() as u32);
+    Err(AllocFault::PoolEmpty(kind))
+}
