@@ -1,0 +1,17 @@
+/* lwIP's pbufs alone, with the sizes that the program has: 256 of POOL, of 512 octets each. One thread, no locks, no assertions. */
+#define NO_SYS 1
+#define SYS_LIGHTWEIGHT_PROT 0
+#define LWIP_NOASSERT 1
+#define LWIP_TCP 0
+#define LWIP_UDP 0
+#define LWIP_RAW 0
+#define LWIP_ICMP 0
+#define LWIP_ARP 0
+#define LWIP_NETCONN 0
+#define LWIP_SOCKET 0
+#define LWIP_STATS 0
+#define IP_REASSEMBLY 0
+#define IP_FRAG 0
+#define MEM_ALIGNMENT 8
+#define PBUF_POOL_SIZE 256
+#define PBUF_POOL_BUFSIZE 512
