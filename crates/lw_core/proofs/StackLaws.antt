@@ -1,18 +1,21 @@
 -- What holds of a stack while it takes a frame in.
-use Rattle.std.proofs.Common.{◌≡◌, ℕ, ◌+◌, ◌-◌, ◌≤◌, ◌++◌, ◌∙◌, Bool, true, false, List, [], ◌∷◌, length, take, drop, slice_range, Option, Some, None, IfSome, MatchOption, option_and_then, option_map, refl, sym, ap, subst, arith, append_assoc, if◌then◌else◌}
+use Rattle.std.proofs.Common.{◌≡◌, ℕ, ◌+◌, ◌-◌, ◌<◌, ◌≤◌, ◌++◌, ◌∙◌, Bool, true, false, List, [], ◌∷◌, length, take, drop, slice_range, Option, Some, None, Result, Ok, Err, OnOk, IfSome, IsTrue, MatchOption, option_and_then, option_map, refl, sym, ap, subst, arith, append_assoc, if◌then◌else◌}
 use Rattle.std.specs.List.{All, cons_option, find}
 use Rattle.std.proofs.lemmas.List.{drop-take, length-drop, length-take}
 use Rattle.std.proofs.lemmas.List.Elements.{All-nil, All-cons, All-head, All-tail, All-weaker}
 use Rattle.lw_base.specs.declared.addresses.Ip.{Ip}
 use Rattle.lw_base.specs.declared.heads.ArpPacket.{ArpPacket}
+use Rattle.lw_base.specs.declared.heads.IpHead.{IpHead}
 use Rattle.lw_payload.specs.declared.kinds.Kind.{Kind}
 use Rattle.lw_payload.specs.Views.{View, HomeView}
 use Rattle.lw_payload.specs.Calls.{IsCut, IsSameButRoom}
 use Rattle.lw_payload.specs.Lists.{AreOf}
 use Rattle.lw_payload.proofs.ListLaws.{AreOf-head}
 use Rattle.lw_payload.proofs.HomeLaws.{IsCut-then}
-use Rattle.lw_runs.specs.Kept.{Holds}
+use Rattle.lw_runs.specs.Kept.{Holds, FirstCanTake}
 use Rattle.lw_runs.proofs.HoldsLaws.{AreOf-holds, Holds-append, Holds-back, Holds-refl, Holds-room, Holds-swap, Holds-then}
+use Rattle.lw_reass.specs.Datagrams.{makes_whole}
+use Rattle.lw_reass.specs.Table.{Reassembly, kept_of, JoinsIn}
 use Rattle.lw_arp.specs.declared.entries.ArpEntry.{ArpEntry}
 use Rattle.lw_arp.specs.declared.entries.Lesson.{Lesson}
 use Rattle.lw_arp.specs.declared.entries.Lesson.TheVariants.{Nothing as NoLesson, Update, Make}
@@ -21,9 +24,9 @@ use Rattle.lw_arp.proofs.MapLaws.{held-map_entries, learnt-map_entries, looked_u
 use Rattle.lw_core.specs.declared.arrival.Arrival.{Arrival}
 use Rattle.lw_core.specs.declared.arrival.Arrival.TheVariants.{Arp, Answered, Piece, Nothing}
 use Rattle.lw_core.specs.declared.event.Event.TheVariants.{Frame}
-use Rattle.lw_core.specs.Arrivals.{arrival_of}
+use Rattle.lw_core.specs.Arrivals.{arrival_of, fragment_data, HasData, HoldsData}
 use Rattle.lw_core.specs.Held.{Turns, IsClaimed, IsRefusedRam}
-use Rattle.lw_core.specs.Stack.{waits_at}
+use Rattle.lw_core.specs.Stack.{waits_at, HasRoom, HasRoomFor}
 use Rattle.lw_core.specs.State.{State}
 use Rattle.lw_core.specs.Step.{neighbours_with, on_arrival, outgoing, step, waiting_in, IsUnknown}
 use Rattle.lw_core.proofs.HeldLaws.{AreOf-back, AreOf-front, Holds-weighed, Turns-beside, Turns-claimed, Turns-cut, Turns-given, Turns-holds, Turns-then}
@@ -161,6 +164,31 @@ cut_turns seen h k p q ps from to of cut =
     let a = length-take (to - from) (drop from (seen p).octets) in
     let b = length-drop from (seen p).octets in
     Turns-cut seen h k p q ps (slice_range (seen p).octets from to) of (omega arith) cut
+
+-- there is room for it, where room was made for as many octets as its frame holds
+pub room_made : {P E : Type 0} (seen : P → View) (r : Reassembly P) (a : Arrival) (head : IpHead) (n : ℕ) (before frame : View) (made : Result Unit E) → a ≡ Piece head → HasData (length before.octets - 14) a → IsSameButRoom before frame → n ≡ head.total - head.head_len
+    → OnOk made (0 < r.room) → OnOk made ((xs : List ℕ) → length xs ≡ n → JoinsIn seen r head xs frame) → OnOk made (HasRoom seen r a frame)
+room_made seen r a head n before frame (Ok done) is holds same size room joins =
+    rw is
+    (let data_there : HoldsData (length before.octets - 14) head = rw is at holds in
+    let some = data_there.some in let within = data_there.within in let header = data_there.header in let octets = ap length same.octets in
+    let a = length-take (14 + head.total - (14 + head.head_len)) (drop (14 + head.head_len) frame.octets) in
+    let b = length-drop (14 + head.head_len) frame.octets in
+    record { room = room; joins = joins (fragment_data frame.octets head) (omega arith) })
+room_made seen r a head n before frame (Err none) is holds same size room joins = tt
+
+-- a payload with fewer parts and as much room can be joined where the other can
+fewer_taken : {P : Type 0} (seen : P → View) (ps : List P) (n m : ℕ) → m ≤ n → FirstCanTake seen ps n → FirstCanTake seen ps m
+fewer_taken seen [] n m fewer take = tt
+fewer_taken seen (p ∷ ps) n m fewer take = omega arith
+
+-- so can what was cut of a frame
+pub joins_cut : {P : Type 0} (seen : P → View) (r : Reassembly P) (head : IpHead) (h k : HomeView) (p q : View) (xs : List ℕ) → HasRoomFor seen r head p → IsCut h k p q xs → xs ≡ fragment_data p.octets head → JoinsIn seen r head q.octets q
+joins_cut seen r head h k p q xs room cut same = λ whole.
+    let left : q.octets ≡ fragment_data p.octets head = cut.octets ∙ same in
+    let joins = room.joins (subst (λ (ys : List ℕ). IsTrue (makes_whole r.datagrams head ys)) left whole) in
+    let most = joins.1 in let more = cut.room in
+    (fewer_taken seen (kept_of r head) p.parts q.parts cut.parts joins.0, omega arith)
 
 -- what it gives back
 pub fragment_given : {P : Type 0} (seen : P → View) (h k : HomeView) (p r : P) (ps qs given out : List P) → Turns seen h k (p ∷ ps) (r ∷ ps) → Holds seen (r ∷ ps) (given ++ qs) → out ≡ given → AreOf seen k out

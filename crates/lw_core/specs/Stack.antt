@@ -2,14 +2,16 @@
 use Rattle.std.specs.Prelude.{◌≡◌, ℕ, ◌-◌, ◌≤◌, ◌<◌, List, ◌++◌, length, Option, IfSome}
 use Rattle.std.specs.Option.{option_map}
 use Rattle.lw_base.specs.declared.addresses.Ip.{Ip}
+use Rattle.lw_base.specs.declared.heads.IpHead.{IpHead}
 use Rattle.lw_arp.specs.Neighbours.{map_entries, packets}
 use Rattle.lw_payload.specs.Views.{View}
-use Rattle.lw_runs.specs.Kept.{Holds, parts_of}
+use Rattle.lw_runs.specs.Kept.{Holds}
+use Rattle.lw_reass.specs.Table.{Reassembly, JoinsIn}
 use Rattle.lw_core.specs.declared.arrival.Arrival.{Arrival}
 use Rattle.lw_core.specs.declared.arrival.Arrival.TheVariants.{Arp, Answered, Piece, Nothing}
 use Rattle.lw_core.specs.declared.stack.Stack.{Stack}
 use Rattle.lw_core.specs.declared.receive.Ready.{Ready}
-use Rattle.lw_core.specs.Arrivals.{arrival_of, HasData}
+use Rattle.lw_core.specs.Arrivals.{arrival_of, fragment_data, HasData}
 use Rattle.lw_core.specs.State.{State}
 use Rattle.lw_core.specs.Step.{going, neighbours_with, outgoing, IsUnknown}
 
@@ -30,12 +32,17 @@ stack_state seen s = record {
 abbrev pub held_in : {P H : Type 0} → Stack P H → List P
 held_in s = packets s.table ++ s.reass.bodies
 
--- there is room for the fragment that an arrival brings, if it does, whose payload is this
-abbrev pub HasRoom : {P H : Type 0} → (P → View) → Stack P H → Arrival → View → Type 0
-HasRoom seen s (Arp p) frame = Unit {0}
-HasRoom seen s (Answered src message) frame = Unit {0}
-HasRoom seen s (Piece h) frame = (frame.parts < s.reass.room) × (parts_of seen s.reass.bodies ≤ frame.room)
-HasRoom seen s Nothing frame = Unit {0}
+-- there is room for the fragment that a frame brings, and to join it where it makes its datagram whole
+pub record HasRoomFor {P : Type 0} (seen : P → View) (r : Reassembly P) (h : IpHead) (frame : View) : Type 0 where
+  pub room : 0 < r.room
+  pub joins : JoinsIn seen r h (fragment_data frame.octets h) frame
+
+-- there is room for the fragment that an arrival by a frame brings, if it does
+abbrev pub HasRoom : {P : Type 0} → (P → View) → Reassembly P → Arrival → View → Type 0
+HasRoom seen r (Arp p) frame = Unit {0}
+HasRoom seen r (Answered src message) frame = Unit {0}
+HasRoom seen r (Piece h) frame = HasRoomFor seen r h frame
+HasRoom seen r Nothing frame = Unit {0}
 
 -- a stack is as it was but for the room that it has
 pub record IsSameStack {P H : Type 0} (seen : P → View) (before after : Stack P H) : Type 0 where
@@ -56,4 +63,4 @@ pub record IsReady {P H : Type 0} (seen : P → View) (s : Stack P H) (frame : V
   pub unknown : IfSome r.hop (λ hop. IsUnknown (neighbours_with (stack_state seen s) r.arrival) hop)
   pub holds : HasData (length frame.octets - 14) r.arrival
   pub sends : length r.copies.items ≤ s.netif.room
-  pub room : HasRoom seen s r.arrival frame
+  pub room : HasRoom seen s.reass r.arrival frame

@@ -6,13 +6,12 @@ ghost use Rattle.lw_payload.specs.Calls.{IsCut, IsSameButRoom};
 ghost use Rattle.lw_payload.specs.Lists.{AreOf};
 ghost use Rattle.lw_arp.specs.Neighbours.{held, learnt, looked_up, map_entries, packets};
 ghost use Rattle.lw_netif.specs.Interface.{frames_left};
-ghost use Rattle.lw_runs.specs.Kept.{parts_of};
 ghost use Rattle.lw_reass.specs.Datagrams.{added};
 ghost use Rattle.lw_reass.specs.Table.{given_in};
 ghost use Rattle.lw_core.specs.Arrivals.{fragment_data, HasData, HoldsData};
 ghost use Rattle.lw_core.specs.Datagrams.{IsPacket};
 ghost use Rattle.lw_core.specs.Held.{Turns, IsClaimed, IsRefusedRam, MakesRam, RamIsShort};
-ghost use Rattle.lw_core.specs.Stack.{stack_state, held_in, waits_at, HasRoom, IsReady, IsSameStack};
+ghost use Rattle.lw_core.specs.Stack.{stack_state, held_in, waits_at, HasRoom, HasRoomFor, IsReady, IsSameStack};
 ghost use Rattle.lw_core.specs.Step.{counted, datagrams_with, going, neighbours_with, on_arrival, step, waiting_in, IsUnknown};
 ghost use Rattle.lw_core.specs.declared.event.Event.{Event};
 
@@ -95,14 +94,18 @@ impl<P: Payload> Stack<P> {
 
     /// Makes room for the fragment that an arrival brings, if it does.
     fn room(&mut self, arrival: &Arrival, frame: &mut P) -> Result<(), NoMemory>
-        requires { length (P.seen frame.old).octets < 2 ^ 32 }
+        requires short { length (P.seen frame.old).octets < 2 ^ 32 }
+        requires holds { HasData (length (P.seen frame.old).octets - 14) arrival.now }
         ensures same { IsSameStack P.seen self.old self.new }
         ensures netif { self.new.netif ≡ self.old.netif }
         ensures frame { IsSameButRoom (P.seen frame.old) (P.seen frame.new) }
-        ensures ok { OnOk result (HasRoom P.seen self.new arrival.now (P.seen frame.new)) }
+        ensures ok { OnOk result (HasRoom P.seen self.new.reass arrival.now (P.seen frame.new)) }
     {
         match arrival {
-            Arrival::Piece(_) => self.reass.room(frame),
+            Arrival::Piece(head) => {
+                let n = u32::from(head.total) - u32::from(head.head_len);
+                self.reass.room(head, n, frame)
+            }
             Arrival::Arp(_) | Arrival::Answered(_, _) | Arrival::Nothing => Ok(()),
         }
     }
@@ -135,7 +138,7 @@ impl<P: Payload> Stack<P> {
     fn take(&mut self, home: &mut P::Home, arrival: &Arrival, frame: P)
         requires of_home { AreOf P.seen (P.home_seen home.old) (frame ∷ held_in self.old) }
         requires holds { HasData (length (P.seen frame).octets - 14) arrival.now }
-        requires room { HasRoom P.seen self.old arrival.now (P.seen frame) }
+        requires room { HasRoom P.seen self.old.reass arrival.now (P.seen frame) }
         ensures neighbours { map_entries (λ p. (P.seen p).octets) self.new.table ≡ neighbours_with (stack_state P.seen self.old) arrival.now }
         ensures datagrams { self.new.reass.datagrams ≡ datagrams_with (stack_state P.seen self.old) (P.seen frame).octets arrival.now }
         ensures same { self.new ≡ record self.old { table = self.new.table; reass = self.new.reass } }
@@ -292,8 +295,7 @@ fn learn<P: Payload>(table: &mut ArpTable<P>, home: &mut P::Home, packet: &ArpPa
 fn keep<P: Payload>(reass: &mut Reass<P>, home: &mut P::Home, head: &IpHead, mut frame: P)
     requires of_home { AreOf P.seen (P.home_seen home.old) (frame ∷ reass.old.bodies) }
     requires holds { HoldsData (length (P.seen frame).octets - 14) head.now }
-    requires parts { (P.seen frame).parts < reass.old.room }
-    requires room { parts_of P.seen reass.old.bodies ≤ (P.seen frame).room }
+    requires room { HasRoomFor P.seen reass.old head.now (P.seen frame) }
     ensures datagrams { reass.new.datagrams ≡ (added reass.old.datagrams head.now (fragment_data (P.seen frame).octets head.now)).datagrams }
     ensures turns { Turns P.seen (P.home_seen home.old) (P.home_seen home.new) (frame ∷ reass.old.bodies) reass.new.bodies }
 {

@@ -1,4 +1,4 @@
-use Rattle.std.proofs.Common.{◌≡◌, ℕ, zero, suc, ◌+◌, ◌<◌, ◌≤◌, Bool, true, false, not, ◌&&◌, nat_le, List, [], ◌∷◌, ◌++◌, map, length, get_or, Option, Some, None, is_some, if◌then◌else◌, slice_get, slice_index_or, refl, sym, ap, ◌∙◌, subst, arith}
+use Rattle.std.proofs.Common.{◌≡◌, ℕ, zero, suc, ◌+◌, ◌<◌, ◌≤◌, Bool, true, false, not, ◌&&◌, nat_le, List, [], ◌∷◌, ◌++◌, map, length, get_or, Option, Some, None, is_some, if◌then◌else◌, slice_get, slice_index_or, IsTrue, refl, sym, ap, ◌∙◌, subst, arith}
 use Rattle.std.specs.Option.{unwrap_or}
 use Rattle.std.specs.List.{All}
 use Rattle.std.proofs.lemmas.Bool.Decides.{nat_tests}
@@ -6,12 +6,15 @@ use Rattle.std.proofs.lemmas.List.{length-map, length-append}
 use Rattle.std.proofs.lemmas.List.Elements.{All-push, All-weaker, All-same}
 use Rattle.lw_base.specs.declared.heads.IpHead.{IpHead}
 use Rattle.lw_runs.specs.Positions.{overlaps}
-use Rattle.lw_runs.specs.Kept.{Kept as KeptBy}
-use Rattle.lw_reass.specs.Datagrams.{Datagram, place_of, datagram_of, opened, is_open, fits, refusal_of, with_open, with_fragment, put_at, added, added_unless}
-use Rattle.lw_reass.specs.Opens.{datagram, IsOpen, the_datagram}
+use Rattle.lw_payload.specs.Views.{View}
+use Rattle.lw_runs.specs.Kept.{Kept as KeptBy, CanJoin}
+use Rattle.lw_reass.specs.Datagrams.{Datagram, Added, place_of, datagram_of, opened, is_open, is_whole, fits, refusal_of, with_open, with_fragment, put_at, added, added_unless, whole_in, makes_whole}
+use Rattle.lw_reass.specs.Opens.{datagram, kept_in, kept_at, IsOpen, the_datagram}
+use Rattle.lw_reass.specs.Table.{Reassembly, kept_of, JoinsIn}
 use Rattle.lw_reass.specs.declared.datagram.Open.{Open}
 use Rattle.lw_reass.specs.declared.outcome.Why.{Why}
 use Rattle.lw_reass.proofs.Wholes.{fitting}
+use Rattle.lw_reass.proofs.Tables.{put_whole}
 
 -- a datagram of which nothing came is open
 pub fresh_open : {P H : Type 0} (o : Open P H) (runs spare : KeptBy P) (h : IpHead) (n : ℕ) → datagram o ≡ opened h → o.runs ≡ runs → runs ≡ spare → n ≤ spare.room → IsOpen o n
@@ -25,9 +28,9 @@ fresh_open o runs spare h n e same lent enough =
 pub pushed_each : {P H : Type 0} (os new : List (Open P H)) (o : Open P H) (n : ℕ) → new ≡ os ++ o ∷ [] → IsOpen o n → All (λ x. IsOpen x n) os → All (λ x. IsOpen x n) new
 pushed_each os new o n e is all = All-same (λ x. IsOpen x n) new _ e (All-push (λ x. IsOpen x n) os o all is)
 
--- room for many parts is room for fewer
-pub fewer_parts : {P H : Type 0} (os : List (Open P H)) (n m : ℕ) → m ≤ n → All (λ x. IsOpen x n) os → All (λ x. IsOpen x m) os
-fewer_parts os n m less all = All-weaker (λ x. IsOpen x n) (λ x. IsOpen x m) (λ x is. record { young = is.young; short = is.short; within = is.within; place = let p = is.place in omega arith }) os all
+-- room for many payloads is room for fewer
+pub fewer_payloads : {P H : Type 0} (os : List (Open P H)) (n m : ℕ) → m ≤ n → All (λ x. IsOpen x n) os → All (λ x. IsOpen x m) os
+fewer_payloads os n m less all = All-weaker (λ x. IsOpen x n) (λ x. IsOpen x m) (λ x is. record { young = is.young; short = is.short; within = is.within; place = let p = is.place in omega arith }) os all
 
 get_is : {X : Type 0} (xs : List X) (i : ℕ) (d : X) → get_or xs i d ≡ unwrap_or (slice_get xs i) d
 get_is [] i d = refl
@@ -114,13 +117,18 @@ fits_opened ds h n m os place size opening = rw (the_opened ds h n os place open
 pub free_opened : {P H : Type 0} (ds : List Datagram) (h : IpHead) (n m : ℕ) (os : List (Open P H)) (place : ℕ) → n ≡ m → Opening ds h n os place → overlaps (the_datagram os place h).octets h.offset m ≡ false
 free_opened ds h n m os place size opening = rw (the_opened ds h n os place opening, ← size) (accepted ds h n opening.none).free
 
--- a fragment that isn't refused ends at 65,535 or before
-pub none_is : (r : Option Why) (b : Bool) → b ≡ is_some r → b ≡ false → r ≡ None
-none_is None b e f = refl
-none_is (Some why) b e f = absurd (let g = sym e ∙ f in cc)
+-- where it makes its datagram whole, its payload can be joined with those that are kept there
+pub joins_opened : {P H : Type 0} (seen : P → View) (r : Reassembly P) (h : IpHead) (xs : List ℕ) (n : ℕ) (inside os : List (Open P H)) (place : ℕ) (body : View) → n ≡ length xs → Opening r.datagrams h n os place → kept_in inside ≡ r.kept → kept_at os place ≡ kept_at inside place → JoinsIn seen r h xs body
+    → IsTrue (is_whole (with_fragment (the_datagram os place h) h xs)) → CanJoin seen (kept_at os place) body
+joins_opened {P} seen r h xs n inside os place body size opening kept same joins whole =
+    let made : IsTrue (makes_whole r.datagrams h xs) =
+    ap (λ (a : Added). is_some (whole_in a.outcome)) (sym (added_is r.datagrams h xs n os place size opening) ∙ put_whole (map datagram os) place (with_fragment (the_datagram os place h) h xs) h whole) in
+    let here : kept_at os place ≡ kept_of r h = same ∙ ap (λ (ks : List (List P)). slice_index_or ks place []) kept ∙ ap (λ i. slice_index_or r.kept i []) opening.at in
+    subst (λ (ps : List P). CanJoin seen ps body) (sym here) (joins made)
 
-pub accepted_short : (ds : List Datagram) (h : IpHead) (n m : ℕ) (r : Option Why) (b : Bool) → r ≡ refusal_of ds h n → b ≡ is_some r → b ≡ false → n ≡ m → h.offset + m ≤ 65535
-accepted_short ds h n m r b e is never size =
-    let ok = accepted ds h n (sym e ∙ none_is r b is never) in
+-- a fragment that isn't refused ends at 65,535 or before
+pub accepted_short : (ds : List Datagram) (h : IpHead) (n m : ℕ) → refusal_of ds h n ≡ None → n ≡ m → h.offset + m ≤ 65535
+accepted_short ds h n m none size =
+    let ok = accepted ds h n none in
     let short = (fitting (datagram_of ds h) h n ok.fitting).short in
     omega arith

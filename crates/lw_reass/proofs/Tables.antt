@@ -1,18 +1,17 @@
-use Rattle.std.proofs.Common.{◌≡◌, ℕ, zero, suc, ◌<◌, ◌≤◌, Bool, true, false, List, [], ◌∷◌, ◌++◌, map, length, get_or, set, take, drop, remove, Option, slice_set, refl, sym, ap, ◌∙◌, subst, arith, append_assoc}
+use Rattle.std.proofs.Common.{◌≡◌, ℕ, zero, suc, ◌<◌, Bool, true, false, List, [], ◌∷◌, ◌++◌, map, length, get_or, set, take, drop, remove, Option, slice_set, refl, sym, ap, ◌∙◌, subst, arith, append_assoc}
 use Rattle.std.specs.Option.{unwrap_or}
-use Rattle.std.specs.List.{All, sum_by}
+use Rattle.std.specs.List.{All}
 use Rattle.std.proofs.lemmas.List.{map-append, take-map, drop-map, map-set, get_or-map}
-use Rattle.std.proofs.lemmas.List.Sums.{sum_by-append}
 use Rattle.std.proofs.lemmas.List.Concat.{flat_map-append}
 use Rattle.std.proofs.lemmas.List.Elements.{All-append, All-take, All-drop, All-weaker, All-set}
 use Rattle.lw_base.specs.declared.heads.IpHead.{IpHead}
 use Rattle.lw_payload.specs.Views.{View}
 use Rattle.lw_runs.specs.Positions.{with_octets, octets_in}
-use Rattle.lw_runs.specs.Kept.{Holds, parts_of}
+use Rattle.lw_runs.specs.Kept.{Holds}
 use Rattle.lw_runs.proofs.Spreads.{length-with}
 use Rattle.lw_runs.proofs.HoldsLaws.{Holds-then, Holds-front, Holds-back, Holds-swap, All-front, All-back}
 use Rattle.lw_reass.specs.Datagrams.{Datagram, Added, put_at, with_fragment, is_whole, opened, head_with}
-use Rattle.lw_reass.specs.Opens.{datagram, bodies_in, IsOpen, the_datagram, IsWithin}
+use Rattle.lw_reass.specs.Opens.{datagram, bodies_in, kept_at, IsOpen, the_datagram, IsWithin}
 use Rattle.lw_reass.specs.declared.datagram.Open.{Open}
 use Rattle.lw_reass.specs.declared.outcome.Outcome.TheVariants.{Whole, Kept}
 use Rattle.lw_reass.proofs.Wholes.{Fitting, within_with}
@@ -55,14 +54,9 @@ here_all {P} Q os i o more is all =
     let split : All Q (bodies_in (take i os) ++ (o.runs.bodies ++ bodies_in (drop (suc i) os))) = subst (λ (ps : List P). All Q ps) (split_bodies os i o more is) all in
     All-front Q o.runs.bodies (bodies_in (drop (suc i) os)) (All-back Q (bodies_in (take i os)) (o.runs.bodies ++ bodies_in (drop (suc i) os)) split)
 
--- and the parts are no more
-pub here_parts : {P H : Type 0} (seen : P → View) (os : List (Open P H)) (i : ℕ) (o : Open P H) → i < length os → o ≡ get_or os i o → parts_of seen o.runs.bodies ≤ parts_of seen (bodies_in os)
-here_parts seen os i o more is =
-    let f = λ (p : _). (seen p).parts in
-    let e = ap (sum_by f) (split_bodies os i o more is) in
-    let a = sum_by-append f (bodies_in (take i os)) (o.runs.bodies ++ bodies_in (drop (suc i) os)) in
-    let b = sum_by-append f o.runs.bodies (bodies_in (drop (suc i) os)) in
-    omega arith
+-- those of the datagram at a place are those of the element there
+pub kept_there : {P H : Type 0} (os : List (Open P H)) (i : ℕ) (o : Open P H) → i < length os → o ≡ get_or os i o → kept_at os i ≡ o.runs.bodies
+kept_there os i o more is = get_or-map (λ o. o.runs.bodies) os i o [] more ∙ ap (λ o. o.runs.bodies) (sym is)
 
 -- a datagram less
 pub map-remove : {X Y : Type 0} (f : X → Y) (xs : List X) (i : ℕ) → map f (remove xs i) ≡ remove (map f xs) i

@@ -124,3 +124,7 @@ abbrev pub whole_in : Outcome (List ℕ) → Option (IpHead × List ℕ)
 whole_in (Whole h xs) = Some (h, xs)
 whole_in Kept = None
 whole_in (Dropped why xs) = None
+
+-- a fragment makes its datagram whole
+abbrev pub makes_whole : List Datagram → IpHead → List ℕ → Bool
+makes_whole ds h xs = is_some (whole_in (added ds h xs).outcome)

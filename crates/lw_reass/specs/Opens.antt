@@ -13,11 +13,19 @@ datagram o = record { key = o.key; age = o.age; octets = o.runs.octets; end = o.
 abbrev pub bodies_in : {P H : Type 0} → List (Open P H) → List P
 bodies_in os = flat_map (λ o. o.runs.bodies) os
 
+-- those of each
+abbrev pub kept_in : {P H : Type 0} → List (Open P H) → List (List P)
+kept_in os = map (λ o. o.runs.bodies) os
+
+-- those of the datagram at a place
+abbrev pub kept_at : {P H : Type 0} → List (Open P H) → ℕ → List P
+kept_at os i = slice_index_or (kept_in os) i []
+
 -- no octet is there behind the end, where that is known
 abbrev pub IsWithin : Option ℕ → List (Option ℕ) → Type 0
 IsWithin end octets = IfSome end (λ e. length octets ≤ e)
 
--- an open datagram is younger than 60 ticks, reaches no farther than its end and 65,535, and has room for so many parts
+-- an open datagram is younger than 60 ticks, reaches no farther than its end and 65,535, and has room for so many more payloads
 pub record IsOpen {P H : Type 0} (o : Open P H) (room : ℕ) : Type 0 where
   pub young : o.age < 60
   pub short : length o.runs.octets ≤ 65535

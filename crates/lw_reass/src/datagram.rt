@@ -93,7 +93,7 @@ impl<P: Payload> Open<P> {
         requires fits { fits_in (seen_as self.old) h.now (length (P.seen body).octets) ≡ true }
         requires free { overlaps self.old.runs.octets h.now.offset (length (P.seen body).octets) ≡ false }
         requires family { All (λ p. (P.seen p).family ≡ (P.seen body).family) self.old.runs.bodies }
-        requires room { (P.seen body).parts < self.old.runs.room }
+        requires room { 0 < self.old.runs.room }
         ensures datagram { seen_as self.new ≡ with_fragment (seen_as self.old) h.now (P.seen body).octets }
         ensures bodies { Holds P.seen (body ∷ self.old.runs.bodies) self.new.runs.bodies }
         ensures number { length self.new.runs.bodies ≡ length self.old.runs.bodies + 1 }

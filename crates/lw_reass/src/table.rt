@@ -1,18 +1,18 @@
-ghost use Rattle.std.specs.Prelude.{◌≡◌, ℕ, ◌+◌, ◌^◌, ◌<◌, ◌≤◌, ◌&&◌, not, true, false, nat_le, List, [], ◌∷◌, ◌++◌, map, length, position, vec_capacity, IfOk, IfSome, OnOk};
+ghost use Rattle.std.specs.Prelude.{◌≡◌, ℕ, ◌+◌, ◌^◌, ◌<◌, ◌≤◌, ◌&&◌, not, true, false, nat_le, List, [], ◌∷◌, ◌++◌, map, length, position, vec_capacity, IfOk, IfSome, OnOk, IsTrue};
 ghost use Rattle.std.specs.List.{All};
 ghost use Rattle.lw_payload.specs.Calls.{IsSameButRoom};
 ghost use Rattle.lw_runs.specs.Positions.{overlaps};
-ghost use Rattle.lw_runs.specs.Kept.{Holds, parts_of};
-ghost use Rattle.lw_reass.specs.Datagrams.{added, aged, whole_in, place_of, opened, datagram_of, refusal_of, same_key, key_of, is_open, with_open, put_at, with_fragment, fits};
-ghost use Rattle.lw_reass.specs.Opens.{datagram, bodies_in, IsOpen, the_datagram};
-ghost use Rattle.lw_reass.specs.Table.{outcome_of, given_in};
+ghost use Rattle.lw_runs.specs.Kept.{Holds, CanJoin};
+ghost use Rattle.lw_reass.specs.Datagrams.{added, aged, whole_in, makes_whole, is_whole, place_of, opened, datagram_of, refusal_of, same_key, key_of, is_open, with_open, put_at, with_fragment, fits};
+ghost use Rattle.lw_reass.specs.Opens.{datagram, bodies_in, kept_at, IsOpen, the_datagram};
+ghost use Rattle.lw_reass.specs.Table.{outcome_of, given_in, JoinsIn};
 
 use crate::datagram::{Open, head_with};
 use crate::{NoMemory, Outcome, Why};
 use lw_base::{IpHead, Octets};
 use lw_payload::Payload;
 use lw_runs::Runs;
-use std::alloc::{AllocError, Global};
+use std::alloc::Global;
 use std::marker::Model;
 use std::mem;
 
@@ -37,9 +37,9 @@ impl<P: Payload> Model for Reass<P> {
     ghost Value = { Reassembly P };
 
     ghost use Rattle.std.specs.Prelude.{map, vec_capacity};
-    ghost use Rattle.lw_reass.specs.Opens.{datagram, bodies_in, AreOpen};
+    ghost use Rattle.lw_reass.specs.Opens.{datagram, bodies_in, kept_in, AreOpen};
 
-    ghost view = { λ r. record { datagrams = map datagram r.opens.items; bodies = bodies_in r.opens.items; room = r.room } };
+    ghost view = { λ r. record { datagrams = map datagram r.opens.items; bodies = bodies_in r.opens.items; kept = kept_in r.opens.items; room = r.room } };
 
     ghost invariant = { λ r. AreOpen r.opens.items r.spare (vec_capacity r.opens) r.room };
 }
@@ -47,7 +47,7 @@ impl<P: Payload> Model for Reass<P> {
 impl<P: Payload> Reass<P> {
     /// No datagram is open.
     pub fn new(alloc: Global) -> Result<Reass<P>, NoMemory>
-        ensures { IfOk result (λ r. r ≡ record { datagrams = []; bodies = []; room = 0 }) }
+        ensures { IfOk result (λ r. r ≡ record { datagrams = []; bodies = []; kept = []; room = 0 }) }
     {
         Ok(Reass {
             alloc,
@@ -64,23 +64,22 @@ impl<P: Payload> Reass<P> {
         kept_in(&self.opens)
     }
 
-    /// Makes room for one `add` of this payload, or of what cuts leave of it.
-    pub fn room(&mut self, body: &mut P) -> Result<(), NoMemory>
+    /// Makes room for one `add` of a fragment with this header and `n` octets of data: for its payload, and where it makes its datagram
+    /// whole, to join its payload with those that are kept.
+    pub fn room(&mut self, h: &IpHead, n: u32, body: &mut P) -> Result<(), NoMemory>
         requires { length (P.seen body.old).octets < 2 ^ 32 }
         ensures datagrams { self.new.datagrams ≡ self.old.datagrams }
         ensures bodies { Holds P.seen self.old.bodies self.new.bodies }
         ensures number { length self.new.bodies ≡ length self.old.bodies }
         ensures body { IsSameButRoom (P.seen body.old) (P.seen body.new) }
-        ensures room { OnOk result ((P.seen body.new).parts < self.new.room) }
-        ensures own_room { OnOk result (parts_of P.seen self.new.bodies ≤ (P.seen body.new).room) }
+        ensures ok { OnOk result (0 < self.new.room) }
+        ensures joins { OnOk result ((xs : List ℕ) → length xs ≡ n → JoinsIn P.seen self.new h.now xs (P.seen body.new)) }
     {
         self.room = 0;
-        let parts = body.parts();
-        let room = parts.checked_add(1).ok_or(AllocError)?;
-        body.room(parts_in(&self.opens))?;
-        self.spare.room(parts)?;
-        room_in(&mut self.opens, parts)?;
-        self.room = room;
+        self.spare.room()?;
+        room_in(&mut self.opens)?;
+        room_to_join(&mut self.opens, h, n, body)?;
+        self.room = 1;
         Ok(())
     }
 
@@ -89,16 +88,16 @@ impl<P: Payload> Reass<P> {
     pub fn add(&mut self, h: &IpHead, body: P) -> Outcome<P>
         requires short { length (P.seen body).octets < 2 ^ 32 }
         requires family { All (λ p. (P.seen p).family ≡ (P.seen body).family) self.old.bodies }
-        requires room { (P.seen body).parts < self.old.room }
-        requires own_room { parts_of P.seen self.old.bodies ≤ (P.seen body).room }
+        requires room { 0 < self.old.room }
+        requires joins { JoinsIn P.seen self.old h.now (P.seen body).octets (P.seen body) }
         ensures datagrams { self.new.datagrams ≡ (added self.old.datagrams h.now (P.seen body).octets).datagrams }
         ensures outcome { outcome_of P.seen result ≡ (added self.old.datagrams h.now (P.seen body).octets).outcome }
         ensures bodies { Holds P.seen (body ∷ self.old.bodies) (given_in result ++ self.new.bodies) }
         ensures dropped { (why : Why) (p : P) → result ≡ Outcome.Dropped why p → (p ≡ body) × (self.new.bodies ≡ self.old.bodies) }
     {
         let fresh = Open::new(h, Runs::new(self.alloc));
-        let open = open_of(&self.opens, &fresh, h);
-        match refusal(&self.opens, open, h, body.len()) {
+        let datagram = open_of(&self.opens, &fresh, h);
+        match refusal(&self.opens, datagram, h, body.len()) {
             Some(why) => return Outcome::Dropped(why, body),
             None => {}
         }
@@ -120,12 +119,12 @@ impl<P: Payload> Reass<P> {
     {
         let n = body.len() as u32;
         let fresh = Open::new(h, Runs::new(self.alloc));
-        let open = open_of(&self.opens, &fresh, h);
-        if refusal(&self.opens, open, h, n).is_some() || !open.would_be_whole(h, n) {
+        let datagram = open_of(&self.opens, &fresh, h);
+        if !completes(&self.opens, datagram, h, n) {
             return Ok(None);
         }
-        let head = head_with(open.head, h).unwrap_or(*h);
-        Ok(Some((head, open.runs.octets_with(alloc, h.offset, body)?)))
+        let head = head_with(datagram.head, h).unwrap_or(*h);
+        Ok(Some((head, datagram.runs.octets_with(alloc, h.offset, body)?)))
     }
 
     /// One tick passes: appends the payloads of the datagrams that are given up. Takes no memory, since `gone` needs room for all that are
@@ -187,20 +186,31 @@ fn is_full<P: Payload>(opens: &[Open<P>], h: &IpHead) -> bool
     !(place_in(opens, h) < opens.len()) && opens.len() >= MOST_OPEN
 }
 
-/// Why a fragment of `n` octets isn't kept; `open` is its datagram.
-fn refusal<P: Payload>(opens: &[Open<P>], open: &Open<P>, h: &IpHead, n: u32) -> Option<Why>
-    requires { datagram open.now ≡ datagram_of (map datagram opens.now) h.now }
+/// Why a fragment of `n` octets isn't kept; `own` is its datagram.
+fn refusal<P: Payload>(opens: &[Open<P>], own: &Open<P>, h: &IpHead, n: u32) -> Option<Why>
+    requires { datagram own.now ≡ datagram_of (map datagram opens.now) h.now }
     ensures { result ≡ refusal_of (map datagram opens.now) h.now n }
 {
-    if !open.fits(h, n) {
+    if !own.fits(h, n) {
         Some(Why::BadLength)
     } else if is_full(opens, h) {
         Some(Why::Table)
-    } else if open.runs.overlaps(h.offset, n) {
+    } else if own.runs.overlaps(h.offset, n) {
         Some(Why::Overlap)
     } else {
         None
     }
+}
+
+/// Whether a fragment of `n` octets makes its datagram whole; `own` is its datagram.
+fn completes<P: Payload>(opens: &[Open<P>], own: &Open<P>, h: &IpHead, n: u32) -> bool
+    requires datagram { datagram own.now ≡ datagram_of (map datagram opens.now) h.now }
+    requires open { IsOpen own.now 0 }
+    ensures exact { (xs : List ℕ) → length xs ≡ n → result ≡ makes_whole (map datagram opens.now) h.now xs }
+    ensures none { IsTrue result → refusal_of (map datagram opens.now) h.now n ≡ None }
+    ensures whole { (xs : List ℕ) → length xs ≡ n → IsTrue result → IsTrue (is_whole (with_fragment (datagram own.now) h.now xs)) }
+{
+    refusal(opens, own, h, n).is_none() && own.would_be_whole(h, n)
 }
 
 /// Opens the datagram of a fragment where it isn't open, and answers its place.
@@ -218,6 +228,7 @@ fn open_in<P: Payload>(
     ensures within { result < length opens.new.items }
     ensures datagrams { map datagram opens.new.items ≡ with_open (map datagram opens.old.items) h.now }
     ensures bodies { bodies_in opens.new.items ≡ bodies_in opens.old.items }
+    ensures kept { kept_at opens.new.items result ≡ kept_at opens.old.items result }
     ensures each { (n : ℕ) → All (λ o. IsOpen o n) opens.old.items → n ≤ spare.old.room → All (λ o. IsOpen o n) opens.new.items }
     ensures empty { spare.new.octets ≡ [] }
     ensures none { spare.new.bodies ≡ [] }
@@ -239,8 +250,8 @@ fn put_in<P: Payload>(opens: &mut Vec<Open<P>>, place: usize, h: &IpHead, body: 
     requires fits { fits (the_datagram opens.old.items place h.now) h.now (length (P.seen body).octets) ≡ true }
     requires free { overlaps (the_datagram opens.old.items place h.now).octets h.now.offset (length (P.seen body).octets) ≡ false }
     requires family { All (λ p. (P.seen p).family ≡ (P.seen body).family) (bodies_in opens.old.items) }
-    requires room { All (λ o. IsOpen o ((P.seen body).parts + 1)) opens.old.items }
-    requires own_room { parts_of P.seen (bodies_in opens.old.items) ≤ (P.seen body).room }
+    requires room { All (λ o. IsOpen o 1) opens.old.items }
+    requires joins { IsTrue (is_whole (with_fragment (the_datagram opens.old.items place h.now) h.now (P.seen body).octets)) → CanJoin P.seen (kept_at opens.old.items place) (P.seen body) }
     ensures datagrams { map datagram opens.new.items ≡ (put_at (map datagram opens.old.items) place (with_fragment (the_datagram opens.old.items place h.now) h.now (P.seen body).octets) h.now).datagrams }
     ensures outcome { outcome_of P.seen result ≡ (put_at (map datagram opens.old.items) place (with_fragment (the_datagram opens.old.items place h.now) h.now (P.seen body).octets) h.now).outcome }
     ensures bodies { Holds P.seen (body ∷ bodies_in opens.old.items) (given_in result ++ bodies_in opens.new.items) }
@@ -253,8 +264,8 @@ fn put_in<P: Payload>(opens: &mut Vec<Open<P>>, place: usize, h: &IpHead, body: 
         let head = head_with(head, h).unwrap_or(*h);
         return Outcome::Whole(head, runs.join_with(h.offset, body));
     }
-    let open = &mut opens[place];
-    open.keep(h, body);
+    let datagram = &mut opens[place];
+    datagram.keep(h, body);
     Outcome::Kept
 }
 
@@ -265,39 +276,51 @@ fn kept_in<P: Payload>(opens: &[Open<P>]) -> u32
     ensures { result ≡ length (bodies_in opens.now) }
 {
     let mut kept = 0;
-    for open in opens {
-        kept += open.runs.len();
+    for datagram in opens {
+        kept += datagram.runs.len();
     }
     kept
 }
 
-/// How many parts they have.
-fn parts_in<P: Payload>(opens: &[Open<P>]) -> u32
-    requires few { length opens.now ≤ 5 }
-    requires each { All (λ o. IsOpen o 0) opens.now }
-    ensures { result ≡ parts_of P.seen (bodies_in opens.now) }
-{
-    let mut parts = 0;
-    for open in opens {
-        parts += open.runs.parts();
-    }
-    parts
-}
-
-/// Makes room in each datagram for a payload of so many parts.
-fn room_in<P: Payload>(opens: &mut Vec<Open<P>>, parts: u32) -> Result<(), NoMemory>
+/// Makes room in each datagram for one more payload.
+fn room_in<P: Payload>(opens: &mut Vec<Open<P>>) -> Result<(), NoMemory>
     requires { All (λ o. IsOpen o 0) opens.old.items }
     ensures datagrams { map datagram opens.new.items ≡ map datagram opens.old.items }
-    ensures bodies { Holds P.seen (bodies_in opens.old.items) (bodies_in opens.new.items) }
-    ensures number { length (bodies_in opens.new.items) ≡ length (bodies_in opens.old.items) }
+    ensures bodies { bodies_in opens.new.items ≡ bodies_in opens.old.items }
     ensures each { All (λ o. IsOpen o 0) opens.new.items }
-    ensures ok { OnOk result (All (λ o. IsOpen o (parts + 1)) opens.new.items) }
+    ensures ok { OnOk result (All (λ o. IsOpen o 1) opens.new.items) }
     ensures length { length opens.new.items ≡ length opens.old.items }
     ensures capacity { vec_capacity opens.new ≡ vec_capacity opens.old }
 {
     for place in 0..opens.len() {
-        let open = &mut opens[place];
-        open.runs.room(parts)?;
+        let datagram = &mut opens[place];
+        datagram.runs.room()?;
+    }
+    Ok(())
+}
+
+/// Where a fragment of `n` octets makes its datagram whole, makes room to join its payload with those of the datagram.
+fn room_to_join<P: Payload>(
+    opens: &mut Vec<Open<P>>,
+    h: &IpHead,
+    n: u32,
+    body: &mut P,
+) -> Result<(), NoMemory>
+    requires short { length (P.seen body.old).octets < 2 ^ 32 }
+    requires each { All (λ o. IsOpen o 1) opens.old.items }
+    ensures datagrams { map datagram opens.new.items ≡ map datagram opens.old.items }
+    ensures bodies { Holds P.seen (bodies_in opens.old.items) (bodies_in opens.new.items) }
+    ensures number { length (bodies_in opens.new.items) ≡ length (bodies_in opens.old.items) }
+    ensures body { IsSameButRoom (P.seen body.old) (P.seen body.new) }
+    ensures each { All (λ o. IsOpen o 1) opens.new.items }
+    ensures joins { OnOk result ((xs : List ℕ) → length xs ≡ n → IsTrue (makes_whole (map datagram opens.new.items) h.now xs) → CanJoin P.seen (kept_at opens.new.items (place_of (map datagram opens.new.items) h.now)) (P.seen body.new)) }
+    ensures length { length opens.new.items ≡ length opens.old.items }
+    ensures capacity { vec_capacity opens.new ≡ vec_capacity opens.old }
+{
+    let place = place_in(opens, h);
+    if place < opens.len() && completes(opens, &opens[place], h, n) {
+        let datagram = &mut opens[place];
+        return datagram.runs.room_to_join(body);
     }
     Ok(())
 }
@@ -317,12 +340,12 @@ fn age_all<P: Payload>(opens: &mut Vec<Open<P>>, gone: &mut Vec<P>)
     while place < opens.len() {
         let age = opens[place].age + 1;
         if age < OLDEST {
-            let open = &mut opens[place];
-            open.age = age;
+            let datagram = &mut opens[place];
+            datagram.age = age;
             place += 1;
         } else {
-            let open = opens.remove(place);
-            open.runs.give(gone);
+            let datagram = opens.remove(place);
+            datagram.runs.give(gone);
         }
     }
 }
@@ -332,7 +355,7 @@ fn give_all<P: Payload>(opens: Vec<Open<P>>, gone: &mut Vec<P>)
     requires { length gone.old.items + length (bodies_in opens.items) ≤ vec_capacity gone.old }
     ensures { gone.new.items ≡ gone.old.items ++ bodies_in opens.items }
 {
-    for open in opens {
-        open.runs.give(gone);
+    for datagram in opens {
+        datagram.runs.give(gone);
     }
 }

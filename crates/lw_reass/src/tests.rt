@@ -33,7 +33,7 @@ fn add(alloc: Global, table: &mut Reass<Vec<u8>>, h: &IpHead, octets: &[u8]) -> 
     requires { length octets.now < 2 ^ 32 }
 {
     let mut body = Vec::from_slice(alloc, octets)?;
-    table.room(&mut body)?;
+    table.room(h, octets.len() as u32, &mut body)?;
     Ok(match table.add(h, body) {
         Outcome::Whole(h, p) => Came::Whole(h, p),
         Outcome::Kept => Came::Kept,
@@ -78,6 +78,50 @@ fn the_third_the_first_and_the_second_make_a_whole(rt: HostRuntime) -> Result<()
     assert_eq!(rt; table.kept(), 0);
     let again = add(rt.alloc(), &mut table, &head(7, 8, true), b"ijklmnop")?;
     assert!(rt; matches!(&again, Came::Kept));
+    Ok(())
+}
+
+/// The data of the fragment at a place of a datagram of 300.
+fn fragment(place: u32) -> [u8; 8] {
+    [(place % 251) as u8; 8]
+}
+
+/// Adds the fragments of a datagram of 300 from place `from` on, the last first; answers what came of the one that is added last.
+fn add_in_reverse(alloc: Global, table: &mut Reass<Vec<u8>>, from: u32) -> Result<Came, Fail> {
+    let mut came = Came::Kept;
+    for place in (from..300).rev() {
+        let octets = fragment(place);
+        came = add(alloc, table, &head(9, 8 * place, place != 299), &octets)?;
+    }
+    Ok(came)
+}
+
+#[test]
+fn fragments_in_reverse_order_make_a_whole(rt: HostRuntime) -> Result<(), Fail> {
+    let mut table = Reass::new(rt.alloc())?;
+    let Came::Whole(h, octets) = add_in_reverse(rt.alloc(), &mut table, 0)? else {
+        panic!(rt; "not whole")
+    };
+    assert_eq!(rt; h, head(9, 0, true));
+    let mut all = Vec::new(rt.alloc());
+    for place in 0..300 {
+        all.extend_from_slice(&fragment(place))?;
+    }
+    assert_eq!(rt; octets.as_slice(), all.as_slice());
+    assert_eq!(rt; table.kept(), 0);
+    Ok(())
+}
+
+#[test]
+fn a_fragment_that_makes_no_whole_takes_no_room_to_join(rt: HostRuntime) -> Result<(), Fail> {
+    let mut table = Reass::new(rt.alloc())?;
+    let came = add_in_reverse(rt.alloc(), &mut table, 1)?;
+    assert!(rt; matches!(&came, Came::Kept));
+    let mut kept = Vec::new(rt.alloc());
+    kept.reserve(table.kept() as usize)?;
+    table.finish(&mut kept);
+    assert_eq!(rt; kept.len(), 299);
+    assert!(rt; kept.iter().all(|payload| payload.capacity() < 32));
     Ok(())
 }
 

@@ -7,3 +7,8 @@ pub mod Places
 pub mod Searches
 pub mod RunsLaws
 pub mod Texts
+pub mod Flats
+pub mod ChunkPlaces
+pub mod ChunkPuts
+pub mod ChunkJoins
+pub mod ChunkTexts

@@ -7,8 +7,8 @@ use Rattle.std.proofs.lemmas.List.Sums.{sum_by-cons}
 use Rattle.std.proofs.lemmas.List.Elements.{All-cons, All-head, All-tail}
 use Rattle.lw_payload.specs.Views.{View}
 use Rattle.lw_runs.specs.Positions.{missing, with_octets}
-use Rattle.lw_runs.specs.Kept.{Holds, parts_of}
-use Rattle.lw_runs.specs.Runs.{spread, InOrder, bodies_of, FirstHasRoom}
+use Rattle.lw_runs.specs.Kept.{Holds, parts_of, FirstCanTake}
+use Rattle.lw_runs.specs.Runs.{spread, InOrder, bodies_of}
 use Rattle.lw_runs.specs.Lists.{put}
 use Rattle.lw_runs.specs.declared.run.Run.{Run}
 use Rattle.lw_runs.proofs.Spreads.{touches, with-behind, with-before}
@@ -140,10 +140,10 @@ holds_put seen r runs = record {
 }
 
 -- the first has room for all
-pub first_put : {P : Type 0} (seen : P → View) (r : Run P) (runs : List (Run P)) (n : ℕ) → FirstHasRoom seen runs n → (seen r.body).parts ≤ n → parts_of seen (bodies_of runs) ≤ (seen r.body).room → FirstHasRoom seen (put r runs) 0
-first_put seen r [] n first few own = omega arith
-first_put seen r (h ∷ t) n first few own = first_step (nat_lt r.at h.at)
+pub first_put : {P : Type 0} (seen : P → View) (r : Run P) (runs : List (Run P)) → FirstCanTake seen (bodies_of runs) (seen r.body).parts → parts_of seen (bodies_of runs) ≤ (seen r.body).room → FirstCanTake seen (bodies_of (put r runs)) 0
+first_put seen r [] first own = omega arith
+first_put seen r (h ∷ t) first own = first_step (nat_lt r.at h.at)
   where
-    first_step : (b : Bool) → FirstHasRoom seen (if b then r ∷ h ∷ t else h ∷ put r t) 0
+    first_step : (b : Bool) → FirstCanTake seen (bodies_of (if b then r ∷ h ∷ t else h ∷ put r t)) 0
     first_step true = omega arith
     first_step false = let sum = sum_put (λ p. (seen p).parts) r t in omega arith

@@ -7,8 +7,8 @@ use Rattle.std.proofs.lemmas.List.Sums.{sum_by-cons}
 use Rattle.lw_payload.specs.Views.{View}
 use Rattle.lw_payload.specs.Calls.{IsSameButRoom}
 use Rattle.lw_runs.specs.Positions.{with_octets, overlaps, octets_in}
-use Rattle.lw_runs.specs.Kept.{Holds, parts_of, length_of}
-use Rattle.lw_runs.specs.Runs.{spread, InOrder, bodies_of, FirstHasRoom, AreRuns}
+use Rattle.lw_runs.specs.Kept.{Holds, parts_of, length_of, FirstCanTake, CanJoin}
+use Rattle.lw_runs.specs.Runs.{spread, InOrder, bodies_of, AreRuns}
 use Rattle.lw_runs.specs.Lists.{put, text_of, OneFamily, FirstChanged, FirstHasRoomFor}
 use Rattle.lw_runs.specs.declared.run.Run.{Run}
 use Rattle.lw_runs.proofs.Windows.{there}
@@ -40,11 +40,11 @@ pub put_octets : {P : Type 0} (seen : P → View) (r : Run P) (runs : List (Run 
 put_octets seen r runs fits = let z : r.at - 0 ≡ r.at = omega arith in spread_put seen 0 r runs fits ∙ rw z refl
 
 -- one run more
-pub AreRuns-put : {P : Type 0} (seen : P → View) (r : Run P) (runs : List (Run P)) (capacity more reach count parts room : ℕ) → AreRuns seen runs capacity reach count parts room → Fits seen 0 r runs
+pub AreRuns-put : {P : Type 0} (seen : P → View) (r : Run P) (runs : List (Run P)) (reach count parts number : ℕ) → AreRuns seen runs reach count parts number → Fits seen 0 r runs
     → overlaps (spread seen 0 runs) r.at (length (seen r.body).octets) ≡ false → (seen r.body).parts ≤ length (seen r.body).octets → r.end < 2 ^ 32
     → All (λ p. (seen p).family ≡ (seen r.body).family) (bodies_of runs)
-    → AreRuns seen (put r runs) more (max reach r.end) (count + (r.end - r.at)) (parts + (seen r.body).parts) 0
-AreRuns-put seen r runs capacity more reach count parts room are fits free few short family =
+    → AreRuns seen (put r runs) (max reach r.end) (count + (r.end - r.at)) (parts + (seen r.body).parts) (number + 1)
+AreRuns-put seen r runs reach count parts number are fits free few short family =
     let octets = put_octets seen r runs fits in
     let size = fits.size in
     let was = are.reach in
@@ -57,19 +57,28 @@ AreRuns-put seen r runs capacity more reach count parts room are fits free few s
       few = let n = are.few in omega arith;
       short = omega arith;
       family = ((seen r.body).family, all_put (λ p. (seen p).family ≡ (seen r.body).family) r runs refl family);
-      first = λ some. absurd (omega arith);
-      place = λ some. absurd (omega arith);
+      all_runs = let l = length_put r runs in let n = are.all_runs in omega arith;
     }
 
 -- all octets together are few enough for a count
-pub few_octets : {P : Type 0} (seen : P → View) (runs : List (Run P)) (capacity reach count parts room : ℕ) → AreRuns seen runs capacity reach count parts room → (count ≡ length_of seen (bodies_of runs)) × (count ≤ reach) × (count < 2 ^ 32)
-few_octets seen runs capacity reach count parts room are =
+pub few_octets : {P : Type 0} (seen : P → View) (runs : List (Run P)) (reach count parts number : ℕ) → AreRuns seen runs reach count parts number → (count ≡ length_of seen (bodies_of runs)) × (count ≤ reach) × (count < 2 ^ 32)
+few_octets seen runs reach count parts number are =
     let a = count-spread seen 0 runs in let b = count-le seen 0 runs in let c = are.count in let d = are.reach in let e = are.short in
     (omega arith, omega arith, omega arith)
 
-pub runs_short : {P : Type 0} (seen : P → View) (runs : List (Run P)) (capacity reach count parts room : ℕ) → AreRuns seen runs capacity reach count parts room → All (λ p. length (seen p).octets < 2 ^ 32) (bodies_of runs)
-runs_short seen runs capacity reach count parts room are =
-    let few = few_octets seen runs capacity reach count parts room are in all_short seen (bodies_of runs) (let a = few.0 in let b = few.2 in omega arith)
+pub runs_short : {P : Type 0} (seen : P → View) (runs : List (Run P)) (reach count parts number : ℕ) → AreRuns seen runs reach count parts number → All (λ p. length (seen p).octets < 2 ^ 32) (bodies_of runs)
+runs_short seen runs reach count parts number are =
+    let few = few_octets seen runs reach count parts number are in all_short seen (bodies_of runs) (let a = few.0 in let b = few.2 in omega arith)
+
+-- runs are no more than their octets
+pub number-le : {P : Type 0} (seen : P → View) (a : ℕ) (runs : List (Run P)) → InOrder seen a runs → length runs ≤ length_of seen (bodies_of runs)
+number-le seen a [] order = omega arith
+number-le seen a (r ∷ rs) order =
+    let e = sum_by-cons (λ p. length (seen p).octets) r.body (bodies_of rs) in let rest = number-le seen r.end rs order.3 in let some = order.1 in let size = order.2 in omega arith
+
+pub few_runs : {P : Type 0} (seen : P → View) (runs : List (Run P)) (reach count parts number : ℕ) → AreRuns seen runs reach count parts number → length runs ≤ reach
+few_runs seen runs reach count parts number are =
+    let few = few_octets seen runs reach count parts number are in let n = number-le seen 0 runs are.order in let a = few.0 in let b = few.1 in omega arith
 
 -- the first payload has only other room
 changed_spread : {P : Type 0} (seen : P → View) (a : ℕ) (r : Run P) (q : P) (rs : List (Run P)) → IsSameButRoom (seen r.body) (seen q) → spread seen a (record r { body = q } ∷ rs) ≡ spread seen a (r ∷ rs)
@@ -93,13 +102,9 @@ changed_order {P} seen [] after e order = subst (λ (x : List (Run P)). InOrder 
 changed_order {P} seen (r ∷ rs) after (q, same, e) order =
     subst (λ (x : List (Run P)). InOrder seen 0 x) (sym e) (order.0, order.1, order.2 ∙ rw same.octets refl, order.3)
 
-first_room : {P : Type 0} (seen : P → View) (runs : List (Run P)) (parts n : ℕ) → parts ≡ parts_of seen (bodies_of runs) + n → FirstHasRoomFor seen runs parts → FirstHasRoom seen runs (n + 1 - 1)
-first_room seen [] parts n e h = tt
-first_room seen (r ∷ rs) parts n e h = let s = sum_by-cons (λ p. (seen p).parts) r.body (bodies_of rs) in omega arith
-
 -- then they are runs as before
-pub AreRuns-changed : {P : Type 0} (seen : P → View) (before after : List (Run P)) (capacity more reach count parts room : ℕ) → AreRuns seen before capacity reach count parts room → FirstChanged seen before after → AreRuns seen after more reach count parts 0
-AreRuns-changed seen before after capacity more reach count parts room are changed =
+pub AreRuns-changed : {P : Type 0} (seen : P → View) (before after : List (Run P)) (reach count parts number : ℕ) → AreRuns seen before reach count parts number → FirstChanged seen before after → AreRuns seen after reach count parts number
+AreRuns-changed seen before after reach count parts number are changed =
     let holds = changed_bodies seen before after changed in
     record {
       order = changed_order seen before after changed are.order;
@@ -109,33 +114,26 @@ AreRuns-changed seen before after capacity more reach count parts room are chang
       few = are.few;
       short = are.short;
       family = (are.family.0, holds.family are.family.0 are.family.1);
-      first = λ some. absurd (omega arith);
-      place = λ some. absurd (omega arith);
+      all_runs = are.all_runs ∙ sym (changed_length seen before after changed);
     }
 
--- and with the room that was made
-pub AreRuns-room : {P : Type 0} (seen : P → View) (before after : List (Run P)) (capacity more reach count parts room n : ℕ) → AreRuns seen before capacity reach count parts room → FirstChanged seen before after → FirstHasRoomFor seen after (parts + n) → length before + 1 ≤ more → AreRuns seen after more reach count parts (n + 1)
-AreRuns-room seen before after capacity more reach count parts room n are changed first place =
-    let base = AreRuns-changed seen before after capacity more reach count parts room are changed in
-    record {
-      order = base.order;
-      reach = base.reach;
-      count = base.count;
-      all_parts = base.all_parts;
-      few = base.few;
-      short = base.short;
-      family = base.family;
-      first = λ some. first_room seen after (parts + n) n (let e = base.all_parts in omega arith) first;
-      place = λ some. let e = changed_length seen before after changed in omega arith;
-    }
+first_takes : {P : Type 0} (seen : P → View) (runs : List (Run P)) (n all : ℕ) → all ≡ parts_of seen (bodies_of runs) + n → FirstHasRoomFor seen runs all → FirstCanTake seen (bodies_of runs) n
+first_takes seen [] n all e h = tt
+first_takes seen (r ∷ rs) n all e h = let s = sum_by-cons (λ p. (seen p).parts) r.body (bodies_of rs) in omega arith
+
+-- where the payloads and one more have room for one another's parts, they can be joined
+pub can_join : {P : Type 0} (seen : P → View) (before after : List (Run P)) (body : View) (parts n all : ℕ) → FirstChanged seen before after → parts ≡ parts_of seen (bodies_of before) → n ≡ body.parts → all ≡ parts + n → parts ≤ body.room → FirstHasRoomFor seen after all → CanJoin seen (bodies_of after) body
+can_join seen before after body parts n all changed e same sum own first =
+    let p = (changed_bodies seen before after changed).parts in
+    (first_takes seen after body.parts all (omega arith) first, omega arith)
 
 -- the run of a payload at a position
 abbrev pub run_at : {P : Type 0} → ℕ → ℕ → P → Run P
 run_at from n body = record { at = from; end = from + n; body = body }
 
 -- a payload that may be kept from a position on, where runs are seen as octets and payloads
-pub record MayKeep {P : Type 0} (seen : P → View) (runs : List (Run P)) (octets : List (Option ℕ)) (bodies : List P) (capacity reach count parts room from n : ℕ) (body : P) : Type 0 where
-  pub are : AreRuns seen runs capacity reach count parts room
+pub record MayKeep {P : Type 0} (seen : P → View) (runs : List (Run P)) (octets : List (Option ℕ)) (bodies : List P) (reach count parts number from n : ℕ) (body : P) : Type 0 where
+  pub are : AreRuns seen runs reach count parts number
   pub seen_octets : spread seen 0 runs ≡ octets
   pub seen_bodies : bodies_of runs ≡ bodies
   pub size : n ≡ length (seen body).octets
@@ -145,69 +143,44 @@ pub record MayKeep {P : Type 0} (seen : P → View) (runs : List (Run P)) (octet
   pub family : All (λ p. (seen p).family ≡ (seen body).family) bodies
 
 -- and what is kept then
-pub record IsKept {P : Type 0} (seen : P → View) (new : List (Run P)) (octets : List (Option ℕ)) (bodies : List P) (more reach count parts from n k : ℕ) (body : P) : Type 0 where
-  pub are : AreRuns seen new more (max reach (from + n)) (count + (from + n - from)) (parts + k) 0
+pub record IsKept {P : Type 0} (seen : P → View) (new : List (Run P)) (octets : List (Option ℕ)) (bodies : List P) (reach count parts number from n k : ℕ) (body : P) : Type 0 where
+  pub are : AreRuns seen new (max reach (from + n)) (count + (from + n - from)) (parts + k) (number + 1)
   pub seen_octets : spread seen 0 new ≡ with_octets octets from (seen body).octets
   pub holds : Holds seen (body ∷ bodies) (bodies_of new)
-  pub number : length (bodies_of new) ≡ length bodies + 1
-  pub few : (count + (from + n - from) < 2 ^ 32) × (parts + k < 2 ^ 32)
+  pub one_more : length (bodies_of new) ≡ length bodies + 1
+  pub few : (count + (from + n - from) < 2 ^ 32) × (parts + k < 2 ^ 32) × (number + 1 < 2 ^ 32)
 
-may_fit : {P : Type 0} (seen : P → View) (runs : List (Run P)) (octets : List (Option ℕ)) (bodies : List P) (capacity reach count parts room from n : ℕ) (body : P)
-    → MayKeep seen runs octets bodies capacity reach count parts room from n body → (overlaps (spread seen 0 runs) from (length (seen body).octets) ≡ false) × Fits seen 0 (run_at from n body) runs
-may_fit seen runs octets bodies capacity reach count parts room from n body may =
+may_fit : {P : Type 0} (seen : P → View) (runs : List (Run P)) (octets : List (Option ℕ)) (bodies : List P) (reach count parts number from n : ℕ) (body : P)
+    → MayKeep seen runs octets bodies reach count parts number from n body → (overlaps (spread seen 0 runs) from (length (seen body).octets) ≡ false) × Fits seen 0 (run_at from n body) runs
+may_fit seen runs octets bodies reach count parts number from n body may =
     let free : overlaps (spread seen 0 runs) from (length (seen body).octets) ≡ false = rw may.seen_octets may.free in
     let same : overlaps (spread seen 0 runs) from n ≡ false = rw may.size free in
     (free, fits_in seen (run_at from n body) runs n (let s = may.some in let e = may.size in omega arith) may.size refl may.are.order same)
 
-keeps_put : {P : Type 0} (seen : P → View) (runs : List (Run P)) (octets : List (Option ℕ)) (bodies : List P) (capacity more reach count parts room from n k : ℕ) (body : P)
-    → MayKeep seen runs octets bodies capacity reach count parts room from n body → k ≡ (seen body).parts → (seen body).parts ≤ length (seen body).octets → IsKept seen (put (run_at from n body) runs) octets bodies more reach count parts from n k body
-keeps_put seen runs octets bodies capacity more reach count parts room from n k body may all_parts few_parts =
-    let fit = may_fit seen runs octets bodies capacity reach count parts room from n body may in
+keeps_put : {P : Type 0} (seen : P → View) (runs : List (Run P)) (octets : List (Option ℕ)) (bodies : List P) (reach count parts number from n k : ℕ) (body : P)
+    → MayKeep seen runs octets bodies reach count parts number from n body → k ≡ (seen body).parts → (seen body).parts ≤ length (seen body).octets → IsKept seen (put (run_at from n body) runs) octets bodies reach count parts number from n k body
+keeps_put seen runs octets bodies reach count parts number from n k body may all_parts few_parts =
+    let fit = may_fit seen runs octets bodies reach count parts number from n body may in
     let family : All (λ p. (seen p).family ≡ (seen body).family) (bodies_of runs) = rw may.seen_bodies may.family in
-    let are : AreRuns seen (put (run_at from n body) runs) more (max reach (from + n)) (count + (from + n - from)) (parts + k) 0 =
+    let are : AreRuns seen (put (run_at from n body) runs) (max reach (from + n)) (count + (from + n - from)) (parts + k) (number + 1) =
     rw all_parts
-    (AreRuns-put seen (run_at from n body) runs capacity more reach count parts room may.are fit.1 fit.0 few_parts
+    (AreRuns-put seen (run_at from n body) runs reach count parts number may.are fit.1 fit.0 few_parts
     (let s = may.short in let e = may.size in omega arith) family) in
-    let few = few_octets seen (put (run_at from n body) runs) more (max reach (from + n)) (count + (from + n - from)) (parts + k) 0 are in
+    let few = few_octets seen (put (run_at from n body) runs) (max reach (from + n)) (count + (from + n - from)) (parts + k) (number + 1) are in
+    let runs_few = few_runs seen (put (run_at from n body) runs) (max reach (from + n)) (count + (from + n - from)) (parts + k) (number + 1) are in
     record {
       are = are;
       seen_octets = put_octets seen (run_at from n body) runs fit.1 ∙ rw may.seen_octets refl;
       holds = rw (sym may.seen_bodies) (holds_put seen (run_at from n body) runs);
-      number = rw (sym may.seen_bodies) (length-map (put (run_at from n body) runs) (λ r. r.body) ∙ length_put (run_at from n body) runs ∙ ap (λ m. m + 1) (sym (length-map runs (λ r. r.body))));
-      few = let a = few.2 in let b = are.few in (omega arith, omega arith);
+      one_more = rw (sym may.seen_bodies) (length-map (put (run_at from n body) runs) (λ r. r.body) ∙ length_put (run_at from n body) runs ∙ ap (λ m. m + 1) (sym (length-map runs (λ r. r.body))));
+      few = let a = few.2 in let b = are.few in let l = are.all_runs in let s = are.short in (omega arith, omega arith, omega arith);
     }
 
 -- one payload more is kept
-pub keeps : {P : Type 0} (seen : P → View) (runs new : List (Run P)) (octets : List (Option ℕ)) (bodies : List P) (capacity more reach count parts room from n k : ℕ) (body : P)
-    → MayKeep seen runs octets bodies capacity reach count parts room from n body → k ≡ (seen body).parts → (seen body).parts ≤ length (seen body).octets → new ≡ put (run_at from n body) runs → IsKept seen new octets bodies more reach count parts from n k body
-keeps {P} seen runs new octets bodies capacity more reach count parts room from n k body may all_parts few_parts e =
-    subst (λ (xs : List (Run P)). IsKept seen xs octets bodies more reach count parts from n k body) (sym e) (keeps_put seen runs octets bodies capacity more reach count parts room from n k body may all_parts few_parts)
-
--- the first payload has only other room, where the runs were lent
-pub lent_short : {P : Type 0} (seen : P → View) (runs lent : List (Run P)) (capacity reach count parts room : ℕ) → AreRuns seen runs capacity reach count parts room → lent ≡ runs → All (λ p. length (seen p).octets < 2 ^ 32) (bodies_of lent)
-lent_short {P} seen runs lent capacity reach count parts room are e =
-    subst (λ (xs : List (Run P)). All (λ p. length (seen p).octets < 2 ^ 32) (bodies_of xs)) (sym e) (runs_short seen runs capacity reach count parts room are)
-
-pub lent_changed : {P : Type 0} (seen : P → View) (runs lent after : List (Run P)) (capacity more reach count parts room : ℕ) → AreRuns seen runs capacity reach count parts room → lent ≡ runs → FirstChanged seen lent after → AreRuns seen after more reach count parts 0
-lent_changed {P} seen runs lent after capacity more reach count parts room are e changed =
-    AreRuns-changed seen runs after capacity more reach count parts room are (subst (λ (xs : List (Run P)). FirstChanged seen xs after) e changed)
-
-pub lent_bodies : {P : Type 0} (seen : P → View) (runs lent after : List (Run P)) (bodies : List P) → bodies_of runs ≡ bodies → lent ≡ runs → FirstChanged seen lent after → Holds seen bodies (bodies_of after)
-lent_bodies {P} seen runs lent after bodies is e changed =
-    subst (λ (ps : List P). Holds seen ps (bodies_of after)) is (changed_bodies seen runs after (subst (λ (xs : List (Run P)). FirstChanged seen xs after) e changed))
-
-pub lent_octets : {P : Type 0} (seen : P → View) (runs lent after : List (Run P)) (octets : List (Option ℕ)) → spread seen 0 runs ≡ octets → lent ≡ runs → FirstChanged seen lent after → spread seen 0 after ≡ octets
-lent_octets {P} seen runs lent after octets is e changed = changed_octets seen runs after (subst (λ (xs : List (Run P)). FirstChanged seen xs after) e changed) ∙ is
-
-pub lent_number : {P : Type 0} (seen : P → View) (runs lent after : List (Run P)) (bodies : List P) → bodies_of runs ≡ bodies → lent ≡ runs → FirstChanged seen lent after → length (bodies_of after) ≡ length bodies
-lent_number {P} seen runs lent after bodies is e changed =
-    length-map after (λ r. r.body) ∙ changed_length seen runs after (subst (λ (xs : List (Run P)). FirstChanged seen xs after) e changed) ∙ sym (length-map runs (λ r. r.body)) ∙ ap length is
-
-pub lent_room : {P : Type 0} (seen : P → View) (runs lent after : List (Run P)) (capacity more reach count parts room n all more_room : ℕ) → AreRuns seen runs capacity reach count parts room → lent ≡ runs → FirstChanged seen lent after → all ≡ parts + n → more_room ≡ n + 1 → FirstHasRoomFor seen after all → length runs + 1 ≤ more → AreRuns seen after more reach count parts more_room
-lent_room {P} seen runs lent after capacity more reach count parts room n all more_room are e changed sum one first place =
-    let first : FirstHasRoomFor seen after (parts + n) = subst (λ (m : ℕ). FirstHasRoomFor seen after m) sum first in
-    subst (λ (m : ℕ). AreRuns seen after more reach count parts m) (sym one)
-    (AreRuns-room seen runs after capacity more reach count parts room n are (subst (λ (xs : List (Run P)). FirstChanged seen xs after) e changed) first place)
+pub keeps : {P : Type 0} (seen : P → View) (runs new : List (Run P)) (octets : List (Option ℕ)) (bodies : List P) (reach count parts number from n k : ℕ) (body : P)
+    → MayKeep seen runs octets bodies reach count parts number from n body → k ≡ (seen body).parts → (seen body).parts ≤ length (seen body).octets → new ≡ put (run_at from n body) runs → IsKept seen new octets bodies reach count parts number from n k body
+keeps {P} seen runs new octets bodies reach count parts number from n k body may all_parts few_parts e =
+    subst (λ (xs : List (Run P)). IsKept seen xs octets bodies reach count parts number from n k body) (sym e) (keeps_put seen runs octets bodies reach count parts number from n k body may all_parts few_parts)
 
 one_family : {P : Type 0} (seen : P → View) (f : List ℕ) (ps : List P) → All (λ p. (seen p).family ≡ f) ps → OneFamily seen ps
 one_family seen f [] all = tt
@@ -217,25 +190,25 @@ one_family seen f (p ∷ ps) all =
 -- runs that may be joined, and what they give
 pub record MayJoin {P : Type 0} (seen : P → View) (new : List (Run P)) (octets : List ℕ) (bodies : List P) : Type 0 where
   pub some : 0 < length new
-  pub room : FirstHasRoom seen new 0
+  pub room : FirstCanTake seen (bodies_of new) 0
   pub family : OneFamily seen (bodies_of new)
   pub short : length_of seen (bodies_of new) < 2 ^ 32
   pub text : text_of seen (bodies_of new) ≡ octets
   pub holds : Holds seen bodies (bodies_of new)
 
-joins_put : {P : Type 0} (seen : P → View) (runs : List (Run P)) (octets : List (Option ℕ)) (bodies : List P) (capacity reach count parts room from n : ℕ) (body : P)
-    → MayKeep seen runs octets bodies capacity reach count parts room from n body → (seen body).parts < room → parts_of seen bodies ≤ (seen body).room
+joins_put : {P : Type 0} (seen : P → View) (runs : List (Run P)) (octets : List (Option ℕ)) (bodies : List P) (reach count parts number from n : ℕ) (body : P)
+    → MayKeep seen runs octets bodies reach count parts number from n body → CanJoin seen bodies (seen body)
     → MayJoin seen (put (run_at from n body) runs) (octets_in (with_octets octets from (seen body).octets)) (body ∷ bodies)
-joins_put seen runs octets bodies capacity reach count parts room from n body may enough own =
+joins_put seen runs octets bodies reach count parts number from n body may can =
     let r = run_at from n body in
-    let fit = may_fit seen runs octets bodies capacity reach count parts room from n body may in
+    let fit = may_fit seen runs octets bodies reach count parts number from n body may in
     let family : All (λ p. (seen p).family ≡ (seen body).family) (bodies_of runs) = rw may.seen_bodies may.family in
     let put_in = put_octets seen r runs fit.1 in
     let reaches = ap length put_in ∙ length-with (spread seen 0 runs) from (seen body).octets in
     let most = count-le seen 0 (put r runs) in
     record {
       some = let l = length_put r runs in omega arith;
-      room = first_put seen r runs (room - 1) (may.are.first (omega arith)) (omega arith) (rw may.seen_bodies own);
+      room = first_put seen r runs (rw may.seen_bodies can.0) (rw may.seen_bodies can.1);
       family = one_family seen (seen body).family (bodies_of (put r runs)) (all_put (λ p. (seen p).family ≡ (seen body).family) r runs refl family);
       short = let s = may.short in let t = may.are.short in let u = may.are.reach in omega arith;
       text = sym (octets_in-spread seen 0 (put r runs)) ∙ ap octets_in put_in ∙ rw may.seen_octets refl;
@@ -243,22 +216,12 @@ joins_put seen runs octets bodies capacity reach count parts room from n body ma
     }
 
 -- one payload more is put in, and all may be joined
-pub joins_in : {P : Type 0} (seen : P → View) (runs new : List (Run P)) (octets : List (Option ℕ)) (bodies : List P) (capacity reach count parts room from n : ℕ) (body : P)
-    → MayKeep seen runs octets bodies capacity reach count parts room from n body → (seen body).parts < room → parts_of seen bodies ≤ (seen body).room → new ≡ put (run_at from n body) runs
+pub joins_in : {P : Type 0} (seen : P → View) (runs new : List (Run P)) (octets : List (Option ℕ)) (bodies : List P) (reach count parts number from n : ℕ) (body : P)
+    → MayKeep seen runs octets bodies reach count parts number from n body → CanJoin seen bodies (seen body) → new ≡ put (run_at from n body) runs
     → MayJoin seen new (octets_in (with_octets octets from (seen body).octets)) (body ∷ bodies)
-joins_in {P} seen runs new octets bodies capacity reach count parts room from n body may enough own e =
-    subst (λ (xs : List (Run P)). MayJoin seen xs (octets_in (with_octets octets from (seen body).octets)) (body ∷ bodies)) (sym e) (joins_put seen runs octets bodies capacity reach count parts room from n body may enough own)
+joins_in {P} seen runs new octets bodies reach count parts number from n body may can e =
+    subst (λ (xs : List (Run P)). MayJoin seen xs (octets_in (with_octets octets from (seen body).octets)) (body ∷ bodies)) (sym e) (joins_put seen runs octets bodies reach count parts number from n body may can)
 
 -- what an addition that fits gives
 pub some_is : (o : Option ℕ) (Q : Type 0) (v x : ℕ) → SomeIff o Q v → o ≡ Some x → x ≡ v
 some_is o Q v x h e = let h : SomeIff (Some x) Q v = subst (λ (y : Option ℕ). SomeIff y Q v) e h in h.1
-
--- runs are no more than their octets
-pub number-le : {P : Type 0} (seen : P → View) (a : ℕ) (runs : List (Run P)) → InOrder seen a runs → length runs ≤ length_of seen (bodies_of runs)
-number-le seen a [] order = omega arith
-number-le seen a (r ∷ rs) order =
-    let e = sum_by-cons (λ p. length (seen p).octets) r.body (bodies_of rs) in let rest = number-le seen r.end rs order.3 in let some = order.1 in let size = order.2 in omega arith
-
-pub few_runs : {P : Type 0} (seen : P → View) (runs : List (Run P)) (capacity reach count parts room : ℕ) → AreRuns seen runs capacity reach count parts room → length runs ≤ reach
-few_runs seen runs capacity reach count parts room are =
-    let few = few_octets seen runs capacity reach count parts room are in let n = number-le seen 0 runs are.order in let a = few.0 in let b = few.1 in omega arith

@@ -11,13 +11,16 @@ use Rattle.lw_runs.proofs.Spreads.{touches}
 use Rattle.lw_runs.proofs.Places.{place-le}
 use Rattle.lw_runs.proofs.Puts.{less, not_less}
 
-at_most : (m n : ℕ) → m ≤ n → nat_le m n ≡ true
+pub at_most : (m n : ℕ) → m ≤ n → nat_le m n ≡ true
 at_most m n h = grind (arith, nat_tests)
 
-was_at_most : (m n : ℕ) → nat_le m n ≡ true → m ≤ n
+pub not_most : (m n : ℕ) → n < m → nat_le m n ≡ false
+not_most m n h = grind (arith, nat_tests)
+
+pub was_at_most : (m n : ℕ) → nat_le m n ≡ true → m ≤ n
 was_at_most m n h = grind (arith, nat_tests)
 
-was_more : (m n : ℕ) → nat_le m n ≡ false → n < m
+pub was_more : (m n : ℕ) → nat_le m n ≡ false → n < m
 was_more m n h = grind (arith, nat_tests)
 
 -- a run of those in order begins at the first position or behind it, and ends behind it
@@ -63,7 +66,7 @@ none_before seen a (r ∷ rs) from to order low =
     rw (not_less r.at to (omega arith), none_before seen r.end rs from to order.3 (omega arith)) refl
 
 -- one more place in front of a run that begins at the last position or before it
-next_place : {P : Type 0} (r : Run P) (rs : List (Run P)) (last : ℕ) → r.at ≤ last → position_or_len (λ s. nat_lt last s.at) (r ∷ rs) ≡ suc (position_or_len (λ s. nat_lt last s.at) rs)
+pub next_place : {P : Type 0} (r : Run P) (rs : List (Run P)) (last : ℕ) → r.at ≤ last → position_or_len (λ s. nat_lt last s.at) (r ∷ rs) ≡ suc (position_or_len (λ s. nat_lt last s.at) rs)
 next_place r rs last low = rw (not_less last r.at low) (omega arith)
 
 -- one of two runs, the second of which ends behind the first

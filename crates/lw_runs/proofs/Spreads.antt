@@ -1,4 +1,4 @@
-use Rattle.std.proofs.Common.{◌≡◌, ℕ, zero, suc, ◌+◌, ◌-◌, ◌<◌, ◌≤◌, max, Bool, true, false, ◌&&◌, not, cond, nat_lt, List, [], ◌∷◌, ◌++◌, map, length, take, drop, insert, Option, Some, None, is_some, if◌then◌else◌, refl, sym, ap, ◌∙◌, subst, arith, append_assoc}
+use Rattle.std.proofs.Common.{◌≡◌, ℕ, zero, suc, ◌+◌, ◌-◌, ◌<◌, ◌≤◌, max, Bool, true, false, ◌&&◌, not, cond, nat_lt, List, [], ◌∷◌, ◌++◌, map, length, take, drop, insert, Option, Some, None, is_some, if◌then◌else◌, refl, sym, ap, ◌∙◌, arith, append_assoc}
 use Rattle.std.specs.List.{list_any, position_or_len}
 use Rattle.std.proofs.Math.Seq.{take-append-add, drop-append-add}
 use Rattle.std.proofs.lemmas.List.{append-nil, take-append-le, drop-append-le, take-append-drop, drop-drop, take-replicate, drop-replicate, length-replicate, length-append, length-drop, length-take, length-map}
@@ -91,12 +91,6 @@ insert_step false r h t k e = let s : 1 + k ≡ suc k = omega arith in rw s (ap 
 pub insert_is_put : {P : Type 0} (r : Run P) (runs : List (Run P)) → insert runs (position_or_len (λ h. nat_lt r.at h.at) runs) r ≡ put r runs
 insert_is_put r [] = refl
 insert_is_put r (h ∷ t) = insert_step (nat_lt r.at h.at) r h t (position_or_len (λ s. nat_lt r.at s.at) t) (insert_is_put r t)
-
--- what an insertion that had room leaves
-pub inserted : {P : Type 0} (r : Run P) (runs lent new : List (Run P)) (i : ℕ) (b : Bool) → lent ≡ runs → i ≡ position_or_len (λ h. nat_lt r.at h.at) lent → new ≡ (if b then insert runs i r else runs) → b ≡ true → new ≡ put r runs
-inserted {P} r runs lent new i b same place e ok =
-    let at : i ≡ position_or_len (λ h. nat_lt r.at h.at) runs = subst (λ (xs : List (Run P)). i ≡ position_or_len (λ h. nat_lt r.at h.at) xs) same place in
-    e ∙ rw (ok, at) (insert_is_put r runs)
 
 -- a run has a position from `from` on, before `to`
 abbrev pub touches : {P : Type 0} → ℕ → ℕ → Run P → Bool

@@ -2,3 +2,4 @@ pub mod Positions
 pub mod Kept
 pub mod Runs
 pub mod Lists
+pub mod Chunked

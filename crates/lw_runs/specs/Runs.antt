@@ -20,13 +20,8 @@ InOrder seen a [] = Unit {0}
 InOrder seen a (r ∷ rs) =
     (a ≤ r.at) × (r.at < r.end) × (r.end ≡ r.at + length (seen r.body).octets) × InOrder seen r.end rs
 
--- the first payload has room for the parts of all behind it and for so many more
-abbrev pub FirstHasRoom : {P : Type 0} → (P → View) → List (Run P) → ℕ → Type 0
-FirstHasRoom seen [] n = Unit {0}
-FirstHasRoom seen (r ∷ rs) n = parts_of seen (bodies_of rs) + n ≤ (seen r.body).room
-
--- what holds of the fields of `Runs`: how far the runs reach, how many octets and parts they have, and below how many parts a payload may have for which there is room
-pub record AreRuns {P : Type 0} (seen : P → View) (runs : List (Run P)) (capacity end octets parts room : ℕ) : Type 0 where
+-- what holds of the fields of `Runs`: how far the runs reach, how many octets and parts they have, and how many they are
+pub record AreRuns {P : Type 0} (seen : P → View) (runs : List (Run P)) (end octets parts number : ℕ) : Type 0 where
   pub order : InOrder seen 0 runs
   pub reach : end ≡ length (spread seen 0 runs)
   pub count : octets ≡ length (octets_in (spread seen 0 runs))
@@ -34,5 +29,4 @@ pub record AreRuns {P : Type 0} (seen : P → View) (runs : List (Run P)) (capac
   pub few : parts ≤ octets
   pub short : end < 2 ^ 32
   pub family : (f : List ℕ) × All (λ p. (seen p).family ≡ f) (bodies_of runs)
-  pub first : 0 < room → FirstHasRoom seen runs (room - 1)
-  pub place : 0 < room → length runs < capacity
+  pub all_runs : number ≡ length runs

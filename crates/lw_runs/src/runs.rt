@@ -1,11 +1,12 @@
-ghost use Rattle.std.specs.Prelude.{◌≡◌, ℕ, ◌+◌, ◌^◌, ◌<◌, ◌≤◌, List, [], ◌∷◌, ◌++◌, false, length, vec_capacity, if◌then◌else◌, nat_lt, nat_le, ◌&&◌, true, option_to_list, IsNone, IfOk, IfSome, OnOk, OnErr, take, drop, flat_map};
-ghost use Rattle.std.specs.List.{All, list_any, position_or_len};
+ghost use Rattle.std.specs.Prelude.{◌≡◌, ◌+◌, ◌^◌, ◌<◌, ◌≤◌, [], ◌∷◌, ◌++◌, false, length, vec_capacity, IfOk, OnOk};
+ghost use Rattle.std.specs.List.{All};
+ghost use Rattle.lw_payload.specs.Calls.{IsSameButRoom};
 ghost use Rattle.lw_runs.specs.Positions.{overlaps, octets_in, with_octets};
-ghost use Rattle.lw_runs.specs.Kept.{Holds, parts_of, length_of};
-ghost use Rattle.lw_runs.specs.Runs.{bodies_of, FirstHasRoom, InOrder};
-ghost use Rattle.lw_runs.specs.Lists.{put, text_of, OneFamily, FirstChanged, FirstHasRoomFor};
+ghost use Rattle.lw_runs.specs.Kept.{Holds, CanJoin, parts_of};
+ghost use Rattle.lw_runs.specs.Runs.{bodies_of};
 
 use crate::Run;
+use crate::chunks::Chunks;
 use lw_base::Octets;
 use lw_payload::{NoMemory, Payload};
 use std::alloc::{AllocError, Global};
@@ -14,11 +15,11 @@ use std::marker::Model;
 /// Payloads by the position of their octets, of which no two share one.
 #[derive(Drop)]
 pub struct Runs<P: Payload> {
-    runs: Vec<Run<P>>,
+    chunks: Chunks<P>,
     reach: u32,
     count: u32,
     parts: u32,
-    room: u32,
+    len: u32,
 }
 
 impl<P: Payload> Model for Runs<P> {
@@ -26,12 +27,11 @@ impl<P: Payload> Model for Runs<P> {
 
     ghost Value = { Kept P };
 
-    ghost use Rattle.std.specs.Prelude.{vec_capacity};
     ghost use Rattle.lw_runs.specs.Runs.{AreRuns, bodies_of, spread};
 
-    ghost view = { λ r. record { octets = spread P.seen 0 r.runs.items; bodies = bodies_of r.runs.items; room = r.room } };
+    ghost view = { λ r. record { octets = spread P.seen 0 r.chunks.runs; bodies = bodies_of r.chunks.runs; room = r.chunks.room } };
 
-    ghost invariant = { λ r. AreRuns P.seen r.runs.items (vec_capacity r.runs) r.reach r.count r.parts r.room };
+    ghost invariant = { λ r. AreRuns P.seen r.chunks.runs r.reach r.count r.parts r.len };
 }
 
 impl<P: Payload> Runs<P> {
@@ -40,11 +40,11 @@ impl<P: Payload> Runs<P> {
         ensures { result ≡ record { octets = []; bodies = []; room = 0 } }
     {
         Runs {
-            runs: Vec::new(alloc),
+            chunks: Chunks::new(alloc),
             reach: 0,
             count: 0,
             parts: 0,
-            room: 0,
+            len: 0,
         }
     }
 
@@ -76,7 +76,7 @@ impl<P: Payload> Runs<P> {
         ensures exact { result ≡ length self.now.bodies }
         ensures few { result ≤ length self.now.octets }
     {
-        self.runs.len() as u32
+        self.len
     }
 
     /// Whether an octet is there at one of the `n` positions from `from` on.
@@ -85,23 +85,31 @@ impl<P: Payload> Runs<P> {
         requires short { from + n < 2 ^ 32 }
         ensures { result ≡ overlaps self.now.octets from n }
     {
-        any_between(&self.runs, from, from + n)
+        self.chunks.any_between(from, from + n)
     }
 
-    /// Makes room for one more payload of at most `n` parts. Where it fails there is room for none.
-    pub fn room(&mut self, n: u32) -> Result<(), NoMemory>
+    /// Makes room for one more payload. Where it fails there may be room for none.
+    pub fn room(&mut self) -> Result<(), NoMemory>
+        ensures octets { self.new.octets ≡ self.old.octets }
+        ensures bodies { self.new.bodies ≡ self.old.bodies }
+        ensures ok { OnOk result (0 < self.new.room) }
+    {
+        self.chunks.make_room()
+    }
+
+    /// Makes room in the payloads and in one more for `join_with`: in that which stands first, for the parts of all others.
+    pub fn room_to_join(&mut self, body: &mut P) -> Result<(), NoMemory>
+        requires { length (P.seen body.old).octets < 2 ^ 32 }
         ensures octets { self.new.octets ≡ self.old.octets }
         ensures bodies { Holds P.seen self.old.bodies self.new.bodies }
         ensures number { length self.new.bodies ≡ length self.old.bodies }
-        ensures ok { OnOk result (n < self.new.room) }
+        ensures room { self.new.room ≡ self.old.room }
+        ensures body { IsSameButRoom (P.seen body.old) (P.seen body.new) }
+        ensures ok { OnOk result (CanJoin P.seen self.new.bodies (P.seen body.new)) }
     {
-        self.room = 0;
-        let room = n.checked_add(1).ok_or(AllocError)?;
-        let parts = self.parts.checked_add(n).ok_or(AllocError)?;
-        self.runs.reserve(1)?;
-        room_in_first(&mut self.runs, parts)?;
-        self.room = room;
-        Ok(())
+        body.room(self.parts)?;
+        let parts = self.parts.checked_add(body.parts()).ok_or(AllocError)?;
+        self.chunks.room_in_first(parts)
     }
 
     /// Keeps a payload whose first octet has the position `from`. Takes no memory, since it needs the room; afterwards there may be room
@@ -111,7 +119,7 @@ impl<P: Payload> Runs<P> {
         requires short { from + length (P.seen body).octets < 2 ^ 32 }
         requires free { overlaps self.old.octets from (length (P.seen body).octets) ≡ false }
         requires family { All (λ p. (P.seen p).family ≡ (P.seen body).family) self.old.bodies }
-        requires room { (P.seen body).parts < self.old.room }
+        requires room { 0 < self.old.room }
         ensures octets { self.new.octets ≡ with_octets self.old.octets from (P.seen body).octets }
         ensures bodies { Holds P.seen (body ∷ self.old.bodies) self.new.bodies }
         ensures number { length self.new.bodies ≡ length self.old.bodies + 1 }
@@ -121,15 +129,12 @@ impl<P: Payload> Runs<P> {
         self.reach = self.reach.max(end);
         self.count += end - from;
         self.parts += parts;
-        self.room = 0;
-        put_in(
-            &mut self.runs,
-            Run {
-                at: from,
-                end,
-                body,
-            },
-        );
+        self.len += 1;
+        self.chunks.put(Run {
+            at: from,
+            end,
+            body,
+        });
     }
 
     /// Puts a payload in whose first octet has the position `from`, and joins all in the order of their positions. Takes no memory, since
@@ -139,22 +144,19 @@ impl<P: Payload> Runs<P> {
         requires short { from + length (P.seen body).octets < 2 ^ 32 }
         requires free { overlaps self.octets from (length (P.seen body).octets) ≡ false }
         requires family { All (λ p. (P.seen p).family ≡ (P.seen body).family) self.bodies }
-        requires room { (P.seen body).parts < self.room }
-        requires own_room { parts_of P.seen self.bodies ≤ (P.seen body).room }
+        requires room { 0 < self.room }
+        requires joins { CanJoin P.seen self.bodies (P.seen body) }
         ensures octets { (P.seen result).octets ≡ octets_in (with_octets self.octets from (P.seen body).octets) }
         ensures bodies { Holds P.seen (body ∷ self.bodies) (result ∷ []) }
     {
         let end = from + body.len();
-        let Runs { mut runs, .. } = self;
-        put_in(
-            &mut runs,
-            Run {
-                at: from,
-                end,
-                body,
-            },
-        );
-        join_all(runs)
+        let Runs { mut chunks, .. } = self;
+        chunks.put(Run {
+            at: from,
+            end,
+            body,
+        });
+        chunks.join_all()
     }
 
     /// Gives all payloads back behind those in `gone`, in the order of their positions. Takes no memory, since it needs the room.
@@ -163,8 +165,8 @@ impl<P: Payload> Runs<P> {
         ensures given { gone.new.items ≡ gone.old.items ++ self.bodies }
         ensures room { vec_capacity gone.new ≡ vec_capacity gone.old }
     {
-        let Runs { runs, .. } = self;
-        give_all(runs, gone);
+        let Runs { chunks, .. } = self;
+        chunks.give_all(gone);
     }
 
     /// The octets there with those of `text` put in from position `from` on: what `keep` of a payload of these octets and then `join` would
@@ -175,112 +177,10 @@ impl<P: Payload> Runs<P> {
         requires free { overlaps self.now.octets from (length text.now) ≡ false }
         ensures { IfOk result (λ octets. octets ≡ octets_in (with_octets self.now.octets from text.now)) }
     {
-        let place = place_of(&self.runs, from);
-        let (front, back) = self.runs.split_at(place);
         let mut all = Vec::with_capacity(alloc, self.count as usize + text.len())?;
-        copy_to(front, &mut all)?;
+        self.chunks.copy_front(from, &mut all)?;
         all.extend_from_slice(text)?;
-        copy_to(back, &mut all)?;
+        self.chunks.copy_back(from, &mut all)?;
         Ok(Octets::from_vec(all))
     }
-}
-
-/// How many runs begin at a position or before it: the place of one more run that begins there.
-fn place_of<P: Payload>(runs: &[Run<P>], from: u32) -> usize
-    requires { InOrder P.seen 0 runs.now }
-    ensures value { result ≡ position_or_len (λ r. nat_lt from r.at) runs.now }
-    ensures within { result ≤ length runs.now }
-{
-    runs.partition_point(
-        |r: &Run<P>| -> bool
-            ensures { result ≡ nat_le r.now.at from }
-        { r.at <= from },
-    )
-}
-
-/// Whether a run has a position from `from` on, below `to`: the last that begins below `to` is the one that ends last.
-fn any_between<P: Payload>(runs: &[Run<P>], from: u32, to: u32) -> bool
-    requires some { from < to }
-    requires order { InOrder P.seen 0 runs.now }
-    ensures { result ≡ list_any (λ r. nat_lt r.at to && nat_lt from r.end) runs.now }
-{
-    let place = place_of(runs, to - 1);
-    place > 0 && from < runs[place - 1].end
-}
-
-/// Puts a run in among others at its place.
-fn put_in<P: Payload>(runs: &mut Vec<Run<P>>, run: Run<P>)
-    requires order { InOrder P.seen 0 runs.old.items }
-    requires room { length runs.old.items < vec_capacity runs.old }
-    ensures { runs.new.items ≡ put run runs.old.items }
-{
-    let place = place_of(runs, run.at);
-    runs.insert(place, run).unwrap();
-}
-
-/// Joins the payloads of runs.
-fn join_all<P: Payload>(runs: Vec<Run<P>>) -> P
-    requires some { 0 < length runs.items }
-    requires room { FirstHasRoom P.seen runs.items 0 }
-    requires family { OneFamily P.seen (bodies_of runs.items) }
-    requires short { length_of P.seen (bodies_of runs.items) < 2 ^ 32 }
-    ensures octets { (P.seen result).octets ≡ text_of P.seen (bodies_of runs.items) }
-    ensures bodies { Holds P.seen (bodies_of runs.items) (result ∷ []) }
-{
-    let mut runs = runs.into_iter();
-    let Some(first) = runs.next() else {
-        unreachable!()
-    };
-    let mut all = first.body;
-    for run in runs {
-        all.join(run.body);
-    }
-    all
-}
-
-/// Appends the payloads of runs.
-fn give_all<P: Payload>(runs: Vec<Run<P>>, gone: &mut Vec<P>)
-    requires { length gone.old.items + length runs.items ≤ vec_capacity gone.old }
-    ensures given { gone.new.items ≡ gone.old.items ++ bodies_of runs.items }
-    ensures room { vec_capacity gone.new ≡ vec_capacity gone.old }
-{
-    for run in runs {
-        gone.push_reserved(run.body);
-    }
-}
-
-/// Makes room for so many parts in the first payload.
-fn room_in_first<P: Payload>(runs: &mut Vec<Run<P>>, parts: u32) -> Result<(), NoMemory>
-    requires { All (λ p. length (P.seen p).octets < 2 ^ 32) (bodies_of runs.old.items) }
-    ensures first { FirstChanged P.seen runs.old.items runs.new.items }
-    ensures capacity { vec_capacity runs.new ≡ vec_capacity runs.old }
-    ensures ok { OnOk result (FirstHasRoomFor P.seen runs.new.items parts) }
-{
-    if runs.is_empty() {
-        return Ok(());
-    }
-    let first = &mut runs[0];
-    first.body.room(parts)
-}
-
-/// Appends the octets of runs.
-fn copy_to<P: Payload>(runs: &[Run<P>], all: &mut Vec<u8>) -> Result<(), NoMemory>
-    requires { All (λ p. length (P.seen p).octets < 2 ^ 32) (bodies_of runs.now) }
-    ensures { OnOk result (all.new.items ≡ all.old.items ++ text_of P.seen (bodies_of runs.now)) }
-{
-    for run in runs {
-        copy_one(&run.body, all)?;
-    }
-    Ok(())
-}
-
-/// Appends the octets of a payload.
-fn copy_one<P: Payload>(body: &P, all: &mut Vec<u8>) -> Result<(), NoMemory>
-    requires { length (P.seen body.now).octets < 2 ^ 32 }
-    ensures { OnOk result (all.new.items ≡ all.old.items ++ (P.seen body.now).octets) }
-{
-    let old = all.len();
-    all.resize(old + body.len() as usize, 0)?;
-    body.copy_at(0, &mut all[old..]);
-    Ok(())
 }

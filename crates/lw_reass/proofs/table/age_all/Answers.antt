@@ -13,30 +13,30 @@ overflow_add-age g c =
 
 pub loop-place-preserved-then-age-lt-OLDEST : goal.loop-place-preserved-then-age-lt-OLDEST
 loop-place-preserved-then-age-lt-OLDEST g c =
-    let same = same_age c.loop-place.opens.items c.loop-place.place c.index.result.now c.index_mut-open.result.now (omega arith) c.index.ensures c.index_mut-open.ensures.value in
+    let same = same_age c.loop-place.opens.items c.loop-place.place c.index.result.now c.index_mut-datagram.result.now (omega arith) c.index.ensures c.index_mut-datagram.ensures.value in
     record {
       aging =
-          aging_stays g.P.Payload.seen c.args.opens.now.items c.loop-place.opens.items c.loop-place.place c.args.gone.now.items c.loop-place.gone.items _ c.index_mut-open.result.now _ c.loop-place.invariant.aging (omega arith) c.index_mut-open.ensures.value
-          (ap (λ n. record c.index_mut-open.result.now { age = n + 1 }) same) (let young = c.if-age-lt-OLDEST.true in omega arith);
+          aging_stays g.P.Payload.seen c.args.opens.now.items c.loop-place.opens.items c.loop-place.place c.args.gone.now.items c.loop-place.gone.items _ c.index_mut-datagram.result.now _ c.loop-place.invariant.aging (omega arith) c.index_mut-datagram.ensures.value
+          (ap (λ n. record c.index_mut-datagram.result.now { age = n + 1 }) same) (let young = c.if-age-lt-OLDEST.true in omega arith);
       room = c.loop-place.invariant.room;
       same = c.loop-place.invariant.same;
     }
 
 pub give-requires : goal.give-requires
 give-requires g c =
-    let room = aging_room g.P.Payload.seen c.args.opens.now.items c.loop-place.opens.items c.loop-place.place c.args.gone.now.items c.loop-place.gone.items _ c.remove-open.result c.loop-place.invariant.aging (omega arith) c.remove-open.ensures.value in
+    let room = aging_room g.P.Payload.seen c.args.opens.now.items c.loop-place.opens.items c.loop-place.place c.args.gone.now.items c.loop-place.gone.items _ c.remove-datagram.result c.loop-place.invariant.aging (omega arith) c.remove-datagram.ensures.value in
     let same = c.loop-place.invariant.room in
     omega arith
 
 pub loop-place-preserved : goal.loop-place-preserved
 loop-place-preserved g c =
-    let same = same_age c.loop-place.opens.items c.loop-place.place c.index.result.now c.remove-open.result (omega arith) c.index.ensures c.remove-open.ensures.value in
+    let same = same_age c.loop-place.opens.items c.loop-place.place c.index.result.now c.remove-datagram.result (omega arith) c.index.ensures c.remove-datagram.ensures.value in
     record {
       aging =
-          aging_ends g.P.Payload.seen c.args.opens.now.items c.loop-place.opens.items c.remove-open.new.self.items c.loop-place.place c.args.gone.now.items c.loop-place.gone.items c.give.new.gone.items _ c.remove-open.result c.loop-place.invariant.aging (omega arith)
-          c.remove-open.ensures.value c.remove-open.ensures.items c.give.ensures.given (let old = c.if-age-lt-OLDEST.false in omega arith);
+          aging_ends g.P.Payload.seen c.args.opens.now.items c.loop-place.opens.items c.remove-datagram.new.self.items c.loop-place.place c.args.gone.now.items c.loop-place.gone.items c.give.new.gone.items _ c.remove-datagram.result c.loop-place.invariant.aging (omega arith)
+          c.remove-datagram.ensures.value c.remove-datagram.ensures.items c.give.ensures.given (let old = c.if-age-lt-OLDEST.false in omega arith);
       room = c.give.ensures.room ∙ c.loop-place.invariant.room;
-      same = c.remove-open.ensures.capacity ∙ c.loop-place.invariant.same;
+      same = c.remove-datagram.ensures.capacity ∙ c.loop-place.invariant.same;
     }
 
 pub returns-clause-datagrams : goal.returns-clause-datagrams

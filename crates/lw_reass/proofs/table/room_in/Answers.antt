@@ -4,36 +4,30 @@ use Rattle.lw_reass.proofs.table.room_in.Goals as goal
 
 pub loop-place-init : goal.loop-place-init
 loop-place-init g c =
-    record { roomed = roomed_none g.P.Payload.seen c.args.opens.now.items c.requires; done = done_none c.args.opens.now.items _; same = refl; end = omega arith }
+    record { roomed = roomed_none c.args.opens.now.items c.requires; done = done_none c.args.opens.now.items _; same = refl; end = omega arith }
 
 pub returns-in_err-room-clause-datagrams : goal.returns-in_err-room-clause-datagrams
 returns-in_err-room-clause-datagrams g c = let size = c.loop-place.invariant.roomed.size in
-    (roomed_more g.P.Payload.seen c.args.opens.now.items c.loop-place.opens.items c.loop-place.place c.index_mut-open.result.now _ c.room.new.self c.loop-place.invariant.roomed (omega arith) c.index_mut-open.ensures.value refl
-    (record { octets = c.in_err-room.ensures.octets; bodies = c.in_err-room.ensures.bodies; number = c.in_err-room.ensures.number })).datagrams
+    (roomed_more c.args.opens.now.items c.loop-place.opens.items c.loop-place.place c.index_mut-datagram.result.now _ c.room.new.self c.loop-place.invariant.roomed (omega arith) c.index_mut-datagram.ensures.value refl
+    c.in_err-room.ensures.octets c.in_err-room.ensures.bodies).datagrams
 
 pub returns-in_err-room-clause-bodies : goal.returns-in_err-room-clause-bodies
 returns-in_err-room-clause-bodies g c = let size = c.loop-place.invariant.roomed.size in
-    (roomed_more g.P.Payload.seen c.args.opens.now.items c.loop-place.opens.items c.loop-place.place c.index_mut-open.result.now _ c.room.new.self c.loop-place.invariant.roomed (omega arith) c.index_mut-open.ensures.value refl
-    (record { octets = c.in_err-room.ensures.octets; bodies = c.in_err-room.ensures.bodies; number = c.in_err-room.ensures.number })).holds
-
-pub returns-in_err-room-clause-number : goal.returns-in_err-room-clause-number
-returns-in_err-room-clause-number g c = let size = c.loop-place.invariant.roomed.size in
-    (roomed_more g.P.Payload.seen c.args.opens.now.items c.loop-place.opens.items c.loop-place.place c.index_mut-open.result.now _ c.room.new.self c.loop-place.invariant.roomed (omega arith) c.index_mut-open.ensures.value refl
-    (record { octets = c.in_err-room.ensures.octets; bodies = c.in_err-room.ensures.bodies; number = c.in_err-room.ensures.number })).number
+    (roomed_more c.args.opens.now.items c.loop-place.opens.items c.loop-place.place c.index_mut-datagram.result.now _ c.room.new.self c.loop-place.invariant.roomed (omega arith) c.index_mut-datagram.ensures.value refl
+    c.in_err-room.ensures.octets c.in_err-room.ensures.bodies).bodies
 
 pub returns-in_err-room-clause-each : goal.returns-in_err-room-clause-each
 returns-in_err-room-clause-each g c = let size = c.loop-place.invariant.roomed.size in
-    (roomed_more g.P.Payload.seen c.args.opens.now.items c.loop-place.opens.items c.loop-place.place c.index_mut-open.result.now _ c.room.new.self c.loop-place.invariant.roomed (omega arith) c.index_mut-open.ensures.value refl
-    (record { octets = c.in_err-room.ensures.octets; bodies = c.in_err-room.ensures.bodies; number = c.in_err-room.ensures.number })).each
+    (roomed_more c.args.opens.now.items c.loop-place.opens.items c.loop-place.place c.index_mut-datagram.result.now _ c.room.new.self c.loop-place.invariant.roomed (omega arith) c.index_mut-datagram.ensures.value refl
+    c.in_err-room.ensures.octets c.in_err-room.ensures.bodies).each
 
 pub loop-place-preserved : goal.loop-place-preserved
 loop-place-preserved g c = let size = c.loop-place.invariant.roomed.size in
     record {
-      roomed = roomed_more g.P.Payload.seen c.args.opens.now.items c.loop-place.opens.items c.loop-place.place c.index_mut-open.result.now _ c.room.new.self c.loop-place.invariant.roomed (omega arith) c.index_mut-open.ensures.value refl
-          (record { octets = c.in_ok-room.ensures.octets; bodies = c.in_ok-room.ensures.bodies; number = c.in_ok-room.ensures.number });
-      done =
-          done_more g.P.Payload.seen c.loop-place.opens.items c.loop-place.place _ c.index_mut-open.result.now _ c.room.new.self c.loop-place.invariant.roomed.each (omega arith) c.index_mut-open.ensures.value refl
-          (record { octets = c.in_ok-room.ensures.octets; bodies = c.in_ok-room.ensures.bodies; number = c.in_ok-room.ensures.number }) (let enough = c.in_ok-room.ensures.ok in omega arith) c.loop-place.invariant.done;
+      roomed = roomed_more c.args.opens.now.items c.loop-place.opens.items c.loop-place.place c.index_mut-datagram.result.now _ c.room.new.self c.loop-place.invariant.roomed (omega arith) c.index_mut-datagram.ensures.value refl
+          c.in_ok-room.ensures.octets c.in_ok-room.ensures.bodies;
+      done = done_more c.loop-place.opens.items c.loop-place.place _ c.index_mut-datagram.result.now _ c.room.new.self c.loop-place.invariant.roomed.each (omega arith) c.index_mut-datagram.ensures.value refl
+          c.in_ok-room.ensures.octets (let enough = c.in_ok-room.ensures.ok in omega arith) c.loop-place.invariant.done;
       same = c.loop-place.invariant.same;
       end = c.loop-place.invariant.end;
     }
@@ -42,10 +36,7 @@ pub returns-clause-datagrams : goal.returns-clause-datagrams
 returns-clause-datagrams g c = c.loop-place.invariant.roomed.datagrams
 
 pub returns-clause-bodies : goal.returns-clause-bodies
-returns-clause-bodies g c = c.loop-place.invariant.roomed.holds
-
-pub returns-clause-number : goal.returns-clause-number
-returns-clause-number g c = c.loop-place.invariant.roomed.number
+returns-clause-bodies g c = c.loop-place.invariant.roomed.bodies
 
 pub returns-clause-each : goal.returns-clause-each
 returns-clause-each g c = c.loop-place.invariant.roomed.each

@@ -11,8 +11,8 @@ outgoing-requires-clause-waiting g c =
     All-front (λ p. length (g.P.Payload.seen p).octets < 2 ^ 32) (packets c.args.self.now.table) c.args.self.now.reass.bodies
     (All-tail (λ p. length (g.P.Payload.seen p).octets < 2 ^ 32) c.args.frame.now (held_in c.args.self.now) c.requires.of_home.short)
 
-pub room-requires : goal.room-requires
-room-requires g c = All-head (λ p. length (g.P.Payload.seen p).octets < 2 ^ 32) c.args.frame.now (held_in c.args.self.now) c.requires.of_home.short
+pub room-requires-clause-short : goal.room-requires-clause-short
+room-requires-clause-short g c = All-head (λ p. length (g.P.Payload.seen p).octets < 2 ^ 32) c.args.frame.now (held_in c.args.self.now) c.requires.of_home.short
 
 pub claim_for-requires-clause-packet : goal.claim_for-requires-clause-packet
 claim_for-requires-clause-packet g c =

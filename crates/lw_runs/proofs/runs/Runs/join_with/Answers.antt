@@ -1,13 +1,13 @@
-use Rattle.std.proofs.Common.{ap, sym, ◌∙◌, vec_capacity}
+use Rattle.std.proofs.Common.{ap, ◌∙◌}
 use Rattle.lw_runs.proofs.HoldsLaws.{Holds-then}
 use Rattle.lw_runs.proofs.RunsLaws.{joins_in}
 use Rattle.lw_runs.proofs.runs.Runs.join_with.Goals as goal
 
 pub join_all-requires : goal.join_all-requires
 join_all-requires g c =
-    let may = joins_in g.P.Payload.seen c.self.inside.runs.items c.put_in.new.runs.items c.args.self.octets c.args.self.bodies (vec_capacity c.self.inside.runs) c.self.inside.reach c.self.inside.count c.self.inside.parts c.args.self.room c.args.from c.len.result c.args.body
+    let may = joins_in g.P.Payload.seen c.self.inside.chunks.runs c.put.new.self.runs c.args.self.octets c.args.self.bodies c.self.inside.reach c.self.inside.count c.self.inside.parts c.self.inside.len c.args.from c.len.result c.args.body
     (record {
-      are = rw (sym (ap (λ k. k.room) c.self.view_is)) c.self.invariant;
+      are = c.self.invariant;
       seen_octets = ap (λ k. k.octets) c.self.view_is;
       seen_bodies = ap (λ k. k.bodies) c.self.view_is;
       size = c.len.ensures;
@@ -15,14 +15,14 @@ join_all-requires g c =
       short = c.requires.short;
       free = c.requires.free;
       family = c.requires.family;
-    }) c.requires.room c.requires.own_room c.put_in.ensures in
+    }) c.requires.joins c.put.ensures in
     record { some = may.some; room = may.room; family = may.family; short = may.short }
 
 pub returns : goal.returns
 returns g c =
-    let may = joins_in g.P.Payload.seen c.self.inside.runs.items c.put_in.new.runs.items c.args.self.octets c.args.self.bodies (vec_capacity c.self.inside.runs) c.self.inside.reach c.self.inside.count c.self.inside.parts c.args.self.room c.args.from c.len.result c.args.body
+    let may = joins_in g.P.Payload.seen c.self.inside.chunks.runs c.put.new.self.runs c.args.self.octets c.args.self.bodies c.self.inside.reach c.self.inside.count c.self.inside.parts c.self.inside.len c.args.from c.len.result c.args.body
     (record {
-      are = rw (sym (ap (λ k. k.room) c.self.view_is)) c.self.invariant;
+      are = c.self.invariant;
       seen_octets = ap (λ k. k.octets) c.self.view_is;
       seen_bodies = ap (λ k. k.bodies) c.self.view_is;
       size = c.len.ensures;
@@ -30,7 +30,7 @@ returns g c =
       short = c.requires.short;
       free = c.requires.free;
       family = c.requires.family;
-    }) c.requires.room c.requires.own_room c.put_in.ensures in
+    }) c.requires.joins c.put.ensures in
     record {
       octets = c.join_all.ensures.octets ∙ may.text;
       bodies = Holds-then g.P.Payload.seen _ _ _ may.holds c.join_all.ensures.bodies;

@@ -1,8 +1,0 @@
-use Rattle.std.proofs.Common.{◌≡◌, ◌++◌, drop}
-use Rattle.lw_runs.specs.Runs.{bodies_of}
-use Rattle.lw_runs.specs.Lists.{text_of}
-use Rattle.lw_runs.proofs.runs.copy_to.Given as goal
-
-abbrev pub invariant-loop-run : goal.invariant-loop-run
-invariant-loop-run g l =
-    l.all.items ++ text_of g.P.Payload.seen (bodies_of (drop l.run-index l.runs)) ≡ l.fn.all.items ++ text_of g.P.Payload.seen (bodies_of l.runs)
