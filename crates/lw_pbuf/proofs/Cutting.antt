@@ -1,8 +1,7 @@
 -- What cuts leave of a chain.
 use Rattle.std.proofs.Common.{◌≡◌, ℕ, suc, ◌+◌, ◌-◌, ◌<◌, ◌≤◌, Bool, true, ◌&&◌, cond, eq-eqb, min, List, [], ◌∷◌, ◌++◌, length, set, take, drop, get_or, All, Some, refl, sym, ap, ◌∙◌, subst, arith, length-append, length-drop, length-take, append-nil}
-use Rattle.std.specs.Prelude.{slice_range}
 use Rattle.std.specs.List.{remove}
-use Rattle.std.proofs.lemmas.List.{drop-take, drop-drop, drop-append-le, take-append-le, drop_at, take_all}
+use Rattle.std.proofs.lemmas.List.{drop-drop, drop-append-le, take-append-le, drop_at, take_all}
 use Rattle.std.proofs.lemmas.List.Elements.{All-head, All-tail, All-cons, All-pop, All-push}
 use Rattle.atomic_table.specs.Seated.{TableId}
 use Rattle.lw_payload.specs.declared.kinds.Kind.{Kind}
@@ -12,20 +11,11 @@ use Rattle.pbuf_seats.specs.declared.owner.Owner.{Owner}
 use Rattle.pbuf_seats.specs.declared.owner.Owner.TheVariants.{Kept, Counted}
 use Rattle.pbuf_seats.specs.Owners.{row_of, weight_of, adds_of, slot_of, IsOwner}
 use Rattle.pbuf_seats.specs.Seats.{SeatSeen}
-use Rattle.lw_pbuf.specs.Parts.{Part}
+use Rattle.pbuf_seats.specs.Parts.{Part}
 use Rattle.lw_pbuf.specs.Chains.{joined, rows_in, least_adds, all_own, IsUnder, IsChain, IsSameSeat, IsSpent, ChainSeen, IsOf}
 use Rattle.lw_pbuf.specs.Cuts.{IsCutTo}
 use Rattle.lw_pbuf.proofs.Joined.{joined-append}
 use Rattle.lw_pbuf.proofs.Lists.{rows_in-cons, weight_in-cons, rows_in-push, weight_in-push, least_adds-front, all_own-front, all_own-tail}
-
--- a window that begins later
-pub drop-range : (xs : List ℕ) (a b n : ℕ) → a + n ≤ b → drop n (slice_range xs a b) ≡ slice_range xs (a + n) b
-drop-range xs a b n fits =
-    ap (λ (k : ℕ). drop n (take k (drop a xs))) (let e : b - a ≡ n + (b - (a + n)) = omega arith in e)
-    ∙ (drop-take n (b - (a + n)) (drop a xs) ∙ ap (λ (l : List ℕ). take (b - (a + n)) l) (drop-drop n a xs))
-
-pub range_length : (xs : List ℕ) (a b : ℕ) → a ≤ b → b ≤ length xs → length (slice_range xs a b) + a ≡ b
-range_length xs a b order within = let t = length-take (b - a) (drop a xs) in let d = length-drop a xs in omega arith
 
 drop-past : (xs ys : List ℕ) (n : ℕ) → drop (length xs + n) (xs ++ ys) ≡ drop n ys
 drop-past xs ys n = sym (drop-drop n (length xs) (xs ++ ys)) ∙ ap (drop n) (drop_at xs ys (length xs) refl)

@@ -11,7 +11,7 @@ use Rattle.pbuf_seats.specs.declared.owner.Owner.TheVariants.{Kept, Counted}
 use Rattle.pbuf_seats.specs.Kept.{counts_of, rows_of}
 use Rattle.pbuf_seats.specs.Owners.{IsOwner, GaveUp, row_of, weight_of, slot_of, ended_at}
 use Rattle.pbuf_seats.specs.Seats.{SeatSeen}
-use Rattle.lw_pbuf.specs.Parts.{Part}
+use Rattle.pbuf_seats.specs.Parts.{Part}
 use Rattle.lw_pbuf.specs.Chains.{joined, rows_in, weight_in, IsUnder, IsChain, ChainSeen, IsOf, IsSameSeat, IsSpent}
 use Rattle.lw_pbuf.specs.Takes.{GivesBack}
 use Rattle.lw_pbuf.proofs.Taken.{own_row}

@@ -22,7 +22,7 @@ use Rattle.pbuf_seats.specs.declared.owner.Owner.TheVariants.{Kept, Counted}
 use Rattle.pbuf_seats.specs.Kept.{row_at, number_of}
 use Rattle.pbuf_seats.specs.Owners.{row_of, weight_of, adds_of, sharing, share_of}
 use Rattle.pbuf_seats.specs.Seats.{SeatSeen}
-use Rattle.lw_pbuf.specs.Parts.{Part}
+use Rattle.pbuf_seats.specs.Parts.{Part}
 use Rattle.lw_pbuf.specs.Chains.{joined, rows_in, weight_in, least_adds, all_own, ChainSeen, IsOf, IsSpent, IsSameSeat}
 use Rattle.lw_pbuf.specs.Cuts.{IsCutTo}
 use Rattle.lw_pbuf.specs.Shares.{handed, first_of, second_of, IsSharedTo}

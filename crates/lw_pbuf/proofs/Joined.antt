@@ -2,7 +2,7 @@
 use Rattle.std.proofs.Common.{◌≡◌, ℕ, zero, suc, ◌+◌, ◌^◌, ◌<◌, ◌≤◌, List, [], ◌∷◌, ◌++◌, length, drop, get_or, All, refl, sym, ap, ◌∙◌, subst, arith, length-append, append_assoc}
 use Rattle.std.proofs.lemmas.List.Elements.{All-append, All-head, All-tail}
 use Rattle.atomic_table.specs.Seated.{TableId}
-use Rattle.lw_pbuf.specs.Parts.{Part}
+use Rattle.pbuf_seats.specs.Parts.{Part}
 use Rattle.lw_pbuf.specs.Chains.{joined, IsUnder, IsChain}
 
 pub joined-append : (xs ys : List Part) → joined (xs ++ ys) ≡ joined xs ++ joined ys

@@ -6,6 +6,7 @@ mod Homes
 mod Sharing
 mod Copying
 mod Taken
+mod Threads
 mod Tried
 mod Freed
 mod Made

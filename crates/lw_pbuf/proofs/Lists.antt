@@ -4,7 +4,7 @@ use Rattle.std.specs.Prelude.{sum_by}
 use Rattle.std.proofs.lemmas.List.Sums.{sum_by-cons, sum_by_push}
 use Rattle.lw_payload.specs.Views.{Slot}
 use Rattle.pbuf_seats.specs.Owners.{row_of, weight_of}
-use Rattle.lw_pbuf.specs.Parts.{Part}
+use Rattle.pbuf_seats.specs.Parts.{Part}
 use Rattle.lw_pbuf.specs.Chains.{rows_in, weight_in, least_adds, all_own}
 
 -- a sum over changed elements

@@ -8,7 +8,7 @@ use Rattle.lw_payload.specs.Views.{Slot}
 use Rattle.pbuf_seats.specs.declared.owner.Owner.{Owner}
 use Rattle.pbuf_seats.specs.Owners.{row_of, weight_of, adds_of}
 use Rattle.pbuf_seats.specs.Seats.{SeatSeen}
-use Rattle.lw_pbuf.specs.Parts.{Part}
+use Rattle.pbuf_seats.specs.Parts.{Part}
 use Rattle.lw_pbuf.specs.Chains.{joined, rows_in, weight_in, least_adds, all_own, IsUnder, IsChain}
 use Rattle.lw_pbuf.specs.Cuts.{IsCutTo, IsRewritten}
 use Rattle.lw_pbuf.proofs.Joined.{joined-append}
@@ -120,9 +120,9 @@ rewritten_some (x ∷ xs) [] same all = absurd same
 rewritten_some (x ∷ xs) (y ∷ ys) same all = All-cons (λ (p : Part). 0 < length p.octets) y ys (let l = same.2 in let s = All-head (λ (p : Part). 0 < length p.octets) x xs all in omega arith) (rewritten_some xs ys same.3 (All-tail (λ (p : Part). 0 < length p.octets) x xs all))
 
 -- and as a slice that is written back they are the whole list
-pub rewritten_all : (ps qs : List Part) → IsRewritten ps qs → refill (length ps) ps qs ≡ qs
-rewritten_all ps qs same = let n = rewritten_count ps qs same in
-    ap (λ (l : List Part). take (length ps) (qs ++ l)) (drop_all (length qs) ps (omega arith)) ∙ (ap (take (length ps)) (append-nil qs) ∙ take_all (length ps) qs (omega arith))
+pub rewritten_all : (n : ℕ) (ps qs : List Part) → n ≡ length ps → IsRewritten ps qs → refill n ps qs ≡ qs
+rewritten_all n ps qs all same = let m = rewritten_count ps qs same in
+    ap (λ (l : List Part). take n (qs ++ l)) (drop_all (length qs) ps (omega arith)) ∙ (ap (take n) (append-nil qs) ∙ take_all n qs (omega arith))
 
 -- a chain that was written over is one
 pub rewritten_chain : (t : TableId) (ps qs : List Part) → IsRewritten ps qs → length (joined qs) ≡ length (joined ps) → IsChain t ps → IsChain t qs

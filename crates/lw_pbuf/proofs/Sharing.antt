@@ -1,9 +1,9 @@
 -- How a chain is shared.
-use Rattle.std.proofs.Common.{◌≡◌, ℕ, zero, suc, ◌+◌, ◌-◌, ◌<◌, ◌≤◌, Bool, true, false, ◌&&◌, min, cond, eqb, List, [], ◌∷◌, ◌++◌, length, map, set, take, drop, get_or, All, refl, sym, ap, ◌∙◌, subst, arith, length-append, length-take, length-set, append-nil}
+use Rattle.std.proofs.Common.{◌≡◌, ℕ, zero, suc, ◌+◌, ◌-◌, ◌<◌, ◌≤◌, Bool, true, false, ◌&&◌, min, cond, eqb, List, [], ◌∷◌, ◌++◌, length, map, set, take, drop, get_or, All, refl, sym, ap, ◌∙◌, subst, arith, length-take, length-set, append-nil}
 use Rattle.std.proofs.Common.{Result, Ok, Err}
 use Rattle.std.specs.Result.{IfOk, OnOk}
 use Rattle.std.specs.List.{refill}
-use Rattle.std.proofs.lemmas.List.{length-map, drop-drop, take_more, take_more_set, drop-set-lt, take_all, drop_all, map_push, get_or-drop, take-append-le}
+use Rattle.std.proofs.lemmas.List.{length-map, drop-drop, take_more, take_more_set, drop-set-lt, take_all, drop_all, map_push, get_or-drop}
 use Rattle.std.proofs.lemmas.List.Elements.{All-cons, All-head, All-tail, All-map, All-weaker, All-get_or, All-nil}
 use Rattle.std.proofs.lemmas.List.Sums.{sum_by-append}
 use Rattle.atomic_table.specs.Seated.{TableId}
@@ -16,10 +16,9 @@ use Rattle.pbuf_seats.specs.declared.owner.Owner.TheVariants.{Kept, Counted}
 use Rattle.pbuf_seats.specs.Kept.{rows_of, counts_of, number_of}
 use Rattle.pbuf_seats.specs.Owners.{row_of, weight_of, adds_of, slot_of, sharing, share_of, IsOwner, HasRoom}
 use Rattle.pbuf_seats.specs.Seats.{SeatSeen}
-use Rattle.lw_pbuf.specs.Parts.{Part}
-use Rattle.lw_pbuf.specs.Chains.{joined, rows_in, weight_in, least_adds, IsUnder, IsChain, ChainSeen, IsOf, IsSpent, IsSameSeat}
+use Rattle.pbuf_seats.specs.Parts.{Part}
+use Rattle.lw_pbuf.specs.Chains.{rows_in, weight_in, least_adds, IsUnder, IsChain, ChainSeen, IsOf, IsSpent, IsSameSeat}
 use Rattle.lw_pbuf.specs.Shares.{handed, first_of, second_of, as_shared, AreWindows, MayShare, AllShared, IsSharedTo, IsChained}
-use Rattle.lw_pbuf.proofs.Joined.{joined-append}
 use Rattle.lw_pbuf.proofs.Lists.{rows_in-cons, rows_in-push, weight_in-push, sum_by-map}
 use Rattle.lw_pbuf.proofs.Cutting.{may_give, same_seat, same_then}
 use Rattle.lw_pbuf.proofs.Rewriting.{behind_is}
@@ -33,8 +32,8 @@ pub least_end : (ps : List Part) (i : ℕ) → length ps ≤ i → least_adds (d
 least_end ps i past = ap least_adds (drop_all i ps past)
 
 -- a slice that is written back is the whole list
-pub refill_all : (ps qs : List Part) → length qs ≡ length ps → refill (length ps) ps qs ≡ qs
-refill_all ps qs n = ap (λ (l : List Part). take (length ps) (qs ++ l)) (drop_all (length qs) ps (omega arith)) ∙ (ap (take (length ps)) (append-nil qs) ∙ take_all (length ps) qs (omega arith))
+pub refill_all : (n : ℕ) (ps qs : List Part) → n ≡ length ps → length qs ≡ length ps → refill n ps qs ≡ qs
+refill_all n ps qs all same = ap (λ (l : List Part). take n (qs ++ l)) (drop_all (length qs) ps (omega arith)) ∙ (ap (take n) (append-nil qs) ∙ take_all n qs (omega arith))
 
 windows-push : (ps ws : List Part) (p w : Part) → AreWindows ps ws → w.octets ≡ p.octets → w.own ≡ false → AreWindows (ps ++ p ∷ []) (ws ++ w ∷ [])
 windows-push [] [] p w are o n = (o, n, tt)
@@ -69,33 +68,6 @@ windows_then (x ∷ xs) (y ∷ ys) (z ∷ zs) a b = (b.0 ∙ a.0, b.1, windows_t
 pub already_shared : (ps : List Part) → All (λ p. p.own ≡ false) ps → ps ≡ map as_shared ps
 already_shared [] all = refl
 already_shared (p ∷ ps) all = λ i. record { owner = p.owner; octets = p.octets; own = All-head (λ (q : Part). q.own ≡ false) p ps all i } ∷ already_shared ps (All-tail (λ (q : Part). q.own ≡ false) p ps all) i
-
--- the octets of one pbuf among all
-pub piece : (ps : List Part) (i : ℕ) (p : Part) → i < length ps → p ≡ get_or ps i p → take (length p.octets) (drop (length (joined (take i ps))) (joined ps)) ≡ p.octets
-piece [] i p inside is = absurd (omega arith)
-piece (x ∷ xs) zero p inside is = ap (λ (y : Part). take (length y.octets) (x.octets ++ joined xs)) is ∙ (take-append-le (length x.octets) x.octets (joined xs) (omega arith) ∙ (take_all (length x.octets) x.octets (omega arith) ∙ ap (λ (y : Part). y.octets) (sym is)))
-piece (x ∷ xs) (suc i) p inside is =
-    ap (λ (k : ℕ). take (length p.octets) (drop k (x.octets ++ joined xs))) (length-append x.octets (joined (take i xs)))
-    ∙ (ap (λ (l : List ℕ). take (length p.octets) l) (drop_past x.octets (joined xs) (length (joined (take i xs)))) ∙ piece xs i p (omega arith) is)
-  where
-    drop_past : (a b : List ℕ) (n : ℕ) → drop (length a + n) (a ++ b) ≡ drop n b
-    drop_past [] b n = ap (λ (k : ℕ). drop k b) (omega arith)
-    drop_past (y ∷ ys) b n = ap (λ (k : ℕ). drop k (y ∷ (ys ++ b))) (let e : suc (length ys) + n ≡ suc (length ys + n) = omega arith in e) ∙ drop_past ys b n
-
--- the octets so far and those of the next pbuf are among all
-pub piece_fits : (ps : List Part) (i : ℕ) (p : Part) → i < length ps → p ≡ get_or ps i p → (length (joined (take (i + 1) ps)) ≡ length (joined (take i ps)) + length p.octets) × (length (joined (take (i + 1) ps)) ≤ length (joined ps))
-piece_fits ps i p inside is =
-    let more = ap (λ (l : List Part). length (joined l)) (take_more ps i p inside) in
-    let both = ap (λ (l : List ℕ). length l) (joined-append (take i ps) (get_or ps i p ∷ [])) in
-    let a = length-append (joined (take i ps)) ((get_or ps i p).octets ++ []) in
-    let b = length-append (get_or ps i p).octets [] in
-    let e = ap (λ (y : Part). length y.octets) is in
-    (omega arith, most ps (i + 1))
-  where
-    most : (xs : List Part) (n : ℕ) → length (joined (take n xs)) ≤ length (joined xs)
-    most xs zero = omega arith
-    most [] (suc n) = omega arith
-    most (x ∷ xs) (suc n) = let r = most xs n in let a = length-append x.octets (joined (take n xs)) in let b = length-append x.octets (joined xs) in omega arith
 
 -- of the pbufs ps, which are qs now, those below i have taken over the windows of ms, which those behind still have
 pub record Adopts (ps qs ms : List Part) (i : ℕ) : Type 0 where
@@ -366,16 +338,17 @@ second_of_seat hands h k p q o of s = record {
 }
 
 -- the lists that are written back after the owners' loop
-pub whole_share : (hands : Bool) (h k : SeatSeen) (t : TableId) (ps mid ws a qs os : List Part) → IsChain t ps → mid ≡ map as_shared ps → AreWindows ps ws → a ≡ mid → AllShared hands h k a qs os
-    → Shares hands h k t ps (refill (length mid) mid qs) (refill (length ws) ws os)
-whole_share hands h k t ps mid ws a qs os chain now are same s =
-    let n = ap length now ∙ length-map ps as_shared in
+pub whole_share : (hands : Bool) (h k : SeatSeen) (t : TableId) (ps mid ws a b qs os : List Part) (n m : ℕ) → IsChain t ps → mid ≡ map as_shared ps → AreWindows ps ws → a ≡ mid → length a ≡ n → b ≡ ws → length b ≡ m → AllShared hands h k a qs os
+    → Shares hands h k t ps (refill n mid qs) (refill m ws os)
+whole_share hands h k t ps mid ws a d qs os n m chain now are same first other second s =
+    let z = ap length now ∙ length-map ps as_shared in
     let w = windows_count ps ws are in
+    let v = ap length other in
     let b = ap length same in
     let x = ap length s.first ∙ length-map a (first_of hands) in
     let y = ap length s.second ∙ length-map a (second_of hands) in
-    subst (λ (l : List Part). Shares hands h k t ps l (refill (length ws) ws os)) (sym (refill_all mid qs (omega arith)))
-    (subst (λ (l : List Part). Shares hands h k t ps qs l) (sym (refill_all ws os (omega arith)))
+    subst (λ (l : List Part). Shares hands h k t ps l (refill m ws os)) (sym (refill_all n mid qs (omega arith) (omega arith)))
+    (subst (λ (l : List Part). Shares hands h k t ps qs l) (sym (refill_all m ws os (omega arith) (omega arith)))
     (shares hands h k t ps mid qs os chain now (subst (λ (l : List Part). AllShared hands h k l qs os) same s)))
 
 pub is_shared_to : (hands : Bool) (h k : SeatSeen) (t : TableId) (p q o : ChainSeen) (ps : List Part) → ps ≡ p.parts → t ≡ p.table → q.table ≡ t → o.table ≡ t → q.room ≡ p.room → Shares hands h k t ps q.parts o.parts → IsSharedTo hands h k p q o
@@ -395,18 +368,13 @@ is_shared_to hands h k t p q o ps parts table first second room s = record {
 pub shares_room : (hands : Bool) (h k : SeatSeen) (t : TableId) (ps qs os : List Part) → Shares hands h k t ps qs os → length qs ≡ length ps
 shares_room hands h k t ps qs os s = ap length s.first ∙ length-map ps (first_of hands)
 
--- what holds anyway holds of an Ok
-pub on_ok : {A E : Type 0} (r : Result A E) (B : Type 0) → B → OnOk r B
-on_ok (Ok x) B holds = holds
-on_ok (Err e) B holds = tt
-
 pub windows_through : (ps s ts z ms a b : List Part) → s ≡ ps → AreWindows s ts → z ≡ ts → AreWindows z ms → a ≡ ps → b ≡ ms → AreWindows a b
 windows_through ps s ts z ms a b e are f more g j =
     subst (λ (l : List Part). AreWindows l b) (sym g) (subst (λ (l : List Part). AreWindows ps l) (sym j)
     (windows_then ps ts ms (subst (λ (l : List Part). AreWindows l ts) e are) (subst (λ (l : List Part). AreWindows l ms) f more)))
 
-pub adopted : (ps a qs : List Part) → a ≡ ps → qs ≡ map as_shared a → refill (length ps) ps qs ≡ map as_shared ps
-adopted ps a qs e now = refill_all ps qs (ap length now ∙ (length-map a as_shared ∙ ap length e)) ∙ (now ∙ ap (map as_shared) e)
+pub adopted : (n : ℕ) (ps a qs : List Part) → a ≡ ps → length a ≡ n → qs ≡ map as_shared a → refill n ps qs ≡ map as_shared ps
+adopted n ps a qs e all now = refill_all n ps qs (let m = ap length e in omega arith) (ap length now ∙ (length-map a as_shared ∙ ap length e)) ∙ (now ∙ ap (map as_shared) e)
 
 pub first_seats : (hands : Bool) (h k : SeatSeen) (p q : ChainSeen) (r : Result ChainSeen ShareFault) → IsOf h p → IfOk r (λ o. IsSharedTo hands h k p q o) → OnOk r (IsOf k q)
 first_seats hands h k p q (Ok o) of s = first_of_seat hands h k p q o of s

@@ -9,7 +9,7 @@ use Rattle.pbuf_seats.specs.declared.owner.Owner.TheVariants.{Kept, Counted}
 use Rattle.pbuf_seats.specs.Kept.{counts_of, rows_of}
 use Rattle.pbuf_seats.specs.Owners.{row_of, weight_of, adds_of}
 use Rattle.pbuf_seats.specs.Seats.{SeatSeen}
-use Rattle.lw_pbuf.specs.Parts.{Part}
+use Rattle.pbuf_seats.specs.Parts.{Part}
 
 -- the octets of all parts, in their order
 abbrev pub joined : List Part → List ℕ

@@ -3,7 +3,7 @@ use Rattle.std.specs.Prelude.{◌≡◌, ◌+◌, ◌≤◌, true, List, [], ◌
 use Rattle.lw_payload.specs.Views.{Slot}
 use Rattle.pbuf_seats.specs.Kept.{rows_of}
 use Rattle.pbuf_seats.specs.Seats.{SeatSeen}
-use Rattle.lw_pbuf.specs.Parts.{Part}
+use Rattle.pbuf_seats.specs.Parts.{Part}
 use Rattle.lw_pbuf.specs.Chains.{rows_in, weight_in, least_adds, all_own, IsSameSeat}
 
 -- of the pbufs ps those of qs are left; the owners of the others were given up to the seat h, which is k then

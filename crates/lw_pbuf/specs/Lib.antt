@@ -1,5 +1,3 @@
-pub mod Parts
-pub mod Bodies
 pub mod Chains
 pub mod Cuts
 pub mod Shares

@@ -4,7 +4,7 @@ use Rattle.lw_payload.specs.Views.{Slot}
 use Rattle.pbuf_seats.specs.Kept.{rows_of}
 use Rattle.pbuf_seats.specs.Owners.{adds_of, sharing, share_of, HasRoom}
 use Rattle.pbuf_seats.specs.Seats.{SeatSeen}
-use Rattle.lw_pbuf.specs.Parts.{Part}
+use Rattle.pbuf_seats.specs.Parts.{Part}
 use Rattle.lw_pbuf.specs.Chains.{rows_in, weight_in, least_adds, IsUnder, ChainSeen, IsSameSeat}
 
 -- how many of its adds an owner hands to the new one: 15 where so many are left beside the one that is used up, and where it hands on any

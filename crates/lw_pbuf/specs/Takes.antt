@@ -1,5 +1,5 @@
 -- How pbufs are taken from a seat and given back to it.
-use Rattle.std.specs.Prelude.{◌≡◌, ℕ, ◌+◌, ◌*◌, ◌<◌, ◌≤◌, ◌==◌, Bool, true, false, if◌then◌else◌, List, [], ◌∷◌, ◌++◌, length, sum_by, count_by, All}
+use Rattle.std.specs.Prelude.{◌≡◌, ℕ, ◌+◌, ◌*◌, ◌<◌, ◌≤◌, ◌==◌, Bool, true, false, if◌then◌else◌, List, ◌++◌, length, map, sum_by, count_by, All}
 use Rattle.lw_payload.specs.declared.kinds.Kind.{Kind}
 use Rattle.lw_payload.specs.declared.kinds.Kind.TheVariants.{Ram, Pool, Rom, Ref}
 use Rattle.lw_payload.specs.Views.{Slot}
@@ -10,13 +10,12 @@ use Rattle.pbuf_seats.specs.declared.owner.Owner.TheVariants.{Kept, Counted}
 use Rattle.pbuf_seats.specs.Kept.{counts_of, rows_of, free_count}
 use Rattle.pbuf_seats.specs.Owners.{row_of, weight_of, adds_of}
 use Rattle.pbuf_seats.specs.Seats.{SeatSeen}
-use Rattle.lw_pbuf.specs.Parts.{Part}
+use Rattle.pbuf_seats.specs.Parts.{Part}
 use Rattle.lw_pbuf.specs.Chains.{rows_in, weight_in, IsUnder}
 
--- the octets of all bodies, in their order
-abbrev pub concat : List (List ℕ) → List ℕ
-concat [] = []
-concat (x ∷ xs) = x ++ concat xs
+-- what the parts are beside their owners: their octets, and whether these are in bodies of the chain's own
+abbrev pub contents : List Part → List (List ℕ × Bool)
+contents ps = map (λ p. (p.octets, p.own)) ps
 
 -- 1 for an owner that a claim made
 abbrev pub claim_of : Owner → ℕ

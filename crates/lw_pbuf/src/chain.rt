@@ -1,5 +1,5 @@
 //! A chain of pbufs.
-ghost use Rattle.std.specs.Prelude.{◌≡◌, ◌+◌, ◌-◌, ◌^◌, ◌<◌, ◌≤◌, [], ◌∷◌, ◌++◌, length, drop, All, OnOk, true, if◌then◌else◌};
+ghost use Rattle.std.specs.Prelude.{◌≡◌, ◌+◌, ◌-◌, ◌^◌, ◌<◌, ◌≤◌, [], ◌∷◌, ◌++◌, length, drop, All, vec_capacity, OnOk, true, if◌then◌else◌};
 ghost use Rattle.std.specs.Arc.{arc_value};
 ghost use Rattle.lw_pbuf.specs.Chains.{joined, rows_in, IsUnder, IsChain, IsOf, IsSpent};
 ghost use Rattle.pbuf_seats.specs.Owners.{IsOwner, ended_at};
@@ -7,19 +7,17 @@ ghost use Rattle.pbuf_seats.specs.Kept.{rows_of};
 ghost use Rattle.lw_payload.specs.Views.{Slot};
 
 use crate::NoMemory;
-use crate::pbuf::Pbuf;
 use pbuf_counts::Counts;
-use pbuf_seats::PoolSeat;
-use smallvec::SmallVec;
+use pbuf_seats::{Pbuf, PoolSeat};
 use std::marker::Model;
 use std::sync::Arc;
 
-/// A list of pbufs, of each of which the chain has an owner. Up to four of them stand in the chain itself.
+/// A list of pbufs, of each of which the chain has an owner.
 /// One that is dropped keeps its owners for good: free it.
 #[derive(Drop)]
 pub struct Chain {
     pub(crate) counts: Arc<Counts>,
-    pub(crate) pbufs: SmallVec<Pbuf, 4>,
+    pub(crate) pbufs: Vec<Pbuf>,
 }
 
 impl Model for Chain {
@@ -31,18 +29,18 @@ impl Model for Chain {
 
     ghost coded = { Prim.hlevel (codes, table_id_coded) };
 
-    ghost use Rattle.std.specs.Prelude.{◌-◌, length};
+    ghost use Rattle.std.specs.Prelude.{◌-◌, length, vec_capacity};
     ghost use Rattle.std.specs.Arc.{arc_value};
     ghost use Rattle.lw_pbuf.specs.Chains.{IsChain};
 
-    ghost view = { λ c. record { table = arc_value c.counts; parts = c.pbufs.items; room = c.pbufs.capacity - length c.pbufs.items } };
+    ghost view = { λ c. record { table = arc_value c.counts; parts = c.pbufs.items; room = vec_capacity c.pbufs - length c.pbufs.items } };
 
     ghost invariant = { λ c. IsChain (arc_value c.counts) c.pbufs.items };
 }
 
 impl Chain {
     /// A chain of pbufs that were just made.
-    pub(crate) fn of(counts: Arc<Counts>, pbufs: SmallVec<Pbuf, 4>) -> Chain
+    pub(crate) fn of(counts: Arc<Counts>, pbufs: Vec<Pbuf>) -> Chain
         requires { IsChain (arc_value counts) pbufs.items }
         ensures table { result.table ≡ arc_value counts }
         ensures parts { result.parts ≡ pbufs.items }
@@ -93,7 +91,6 @@ impl Chain {
             counts: _counts,
             mut pbufs,
         } = tail;
-        let _held = self.pbufs.len();
         self.pbufs.append(&mut pbufs).unwrap();
     }
 }

@@ -3,7 +3,7 @@ ghost use Rattle.std.specs.Prelude.{◌≡◌, ◌+◌, ◌≤◌, ◌++◌, len
 ghost use Rattle.lw_pbuf.specs.Chains.{joined};
 
 use crate::chain::Chain;
-use crate::pbuf::Pbuf;
+use pbuf_seats::Pbuf;
 
 impl Chain {
     /// Copies the octets from `from` on until `out` is full.

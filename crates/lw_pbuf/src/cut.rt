@@ -1,5 +1,5 @@
 //! Cuts: octets that leave a chain, and the pbufs that go with them.
-ghost use Rattle.std.specs.Prelude.{◌≡◌, ◌+◌, ◌-◌, ◌<◌, ◌≤◌, ◌++◌, length, drop, take, true};
+ghost use Rattle.std.specs.Prelude.{◌≡◌, ◌+◌, ◌-◌, ◌<◌, ◌≤◌, ◌++◌, length, drop, take, true, vec_capacity};
 ghost use Rattle.lw_payload.specs.Views.{Slot};
 ghost use Rattle.pbuf_seats.specs.Kept.{rows_of};
 ghost use Rattle.lw_pbuf.specs.Chains.{joined, rows_in, all_own, IsChain, IsOf};
@@ -7,9 +7,7 @@ ghost use Rattle.lw_pbuf.specs.Cuts.{IsCutTo, IsRewritten};
 
 use crate::chain::Chain;
 use crate::free::give_up;
-use crate::pbuf::Pbuf;
-use pbuf_seats::PoolSeat;
-use smallvec::SmallVec;
+use pbuf_seats::{Pbuf, PoolSeat};
 
 impl Chain {
     /// Cuts the first n octets off. A pbuf of which no octet is left is given up. It takes no memory.
@@ -70,7 +68,7 @@ impl Chain {
 }
 
 // Cuts the first n octets off.
-fn front_off(pbufs: &mut SmallVec<Pbuf, 4>, seat: &mut PoolSeat, n: u32)
+fn front_off(pbufs: &mut Vec<Pbuf>, seat: &mut PoolSeat, n: u32)
     requires within { n ≤ length (joined pbufs.old.items) }
     requires chain { IsChain seat.old.holder.table pbufs.old.items }
     requires listed { (s : Slot) → rows_in pbufs.old.items s ≤ rows_of seat.old.kept s }
@@ -78,7 +76,7 @@ fn front_off(pbufs: &mut SmallVec<Pbuf, 4>, seat: &mut PoolSeat, n: u32)
     ensures chain { IsChain seat.new.holder.table pbufs.new.items }
     ensures listed { (s : Slot) → rows_in pbufs.new.items s ≤ rows_of seat.new.kept s }
     ensures cut { IsCutTo seat.old seat.new pbufs.old.items pbufs.new.items }
-    ensures capacity { pbufs.new.capacity ≡ pbufs.old.capacity }
+    ensures capacity { vec_capacity pbufs.new ≡ vec_capacity pbufs.old }
 {
     let mut left = n;
     while left > 0 {
@@ -87,7 +85,7 @@ fn front_off(pbufs: &mut SmallVec<Pbuf, 4>, seat: &mut PoolSeat, n: u32)
 }
 
 // Cuts the last n octets off.
-fn back_off(pbufs: &mut SmallVec<Pbuf, 4>, seat: &mut PoolSeat, n: u32)
+fn back_off(pbufs: &mut Vec<Pbuf>, seat: &mut PoolSeat, n: u32)
     requires within { n ≤ length (joined pbufs.old.items) }
     requires chain { IsChain seat.old.holder.table pbufs.old.items }
     requires listed { (s : Slot) → rows_in pbufs.old.items s ≤ rows_of seat.old.kept s }
@@ -95,7 +93,7 @@ fn back_off(pbufs: &mut SmallVec<Pbuf, 4>, seat: &mut PoolSeat, n: u32)
     ensures chain { IsChain seat.new.holder.table pbufs.new.items }
     ensures listed { (s : Slot) → rows_in pbufs.new.items s ≤ rows_of seat.new.kept s }
     ensures cut { IsCutTo seat.old seat.new pbufs.old.items pbufs.new.items }
-    ensures capacity { pbufs.new.capacity ≡ pbufs.old.capacity }
+    ensures capacity { vec_capacity pbufs.new ≡ vec_capacity pbufs.old }
 {
     let mut left = n;
     while left > 0 {
@@ -104,7 +102,7 @@ fn back_off(pbufs: &mut SmallVec<Pbuf, 4>, seat: &mut PoolSeat, n: u32)
 }
 
 // Cuts n octets or the first pbuf off the front; how many octets are still to be cut.
-fn cut_first(pbufs: &mut SmallVec<Pbuf, 4>, seat: &mut PoolSeat, n: u32) -> u32
+fn cut_first(pbufs: &mut Vec<Pbuf>, seat: &mut PoolSeat, n: u32) -> u32
     requires some { 0 < n }
     requires within { n ≤ length (joined pbufs.old.items) }
     requires chain { IsChain seat.old.holder.table pbufs.old.items }
@@ -114,7 +112,7 @@ fn cut_first(pbufs: &mut SmallVec<Pbuf, 4>, seat: &mut PoolSeat, n: u32) -> u32
     ensures less { result < n }
     ensures chain { IsChain seat.new.holder.table pbufs.new.items }
     ensures cut { IsCutTo seat.old seat.new pbufs.old.items pbufs.new.items }
-    ensures capacity { pbufs.new.capacity ≡ pbufs.old.capacity }
+    ensures capacity { vec_capacity pbufs.new ≡ vec_capacity pbufs.old }
 {
     let len = pbufs[0].len();
     if n < len {
@@ -127,7 +125,7 @@ fn cut_first(pbufs: &mut SmallVec<Pbuf, 4>, seat: &mut PoolSeat, n: u32) -> u32
 }
 
 // Cuts n octets or the last pbuf off the back; how many octets are still to be cut.
-fn cut_last(pbufs: &mut SmallVec<Pbuf, 4>, seat: &mut PoolSeat, n: u32) -> u32
+fn cut_last(pbufs: &mut Vec<Pbuf>, seat: &mut PoolSeat, n: u32) -> u32
     requires some { 0 < n }
     requires within { n ≤ length (joined pbufs.old.items) }
     requires chain { IsChain seat.old.holder.table pbufs.old.items }
@@ -137,9 +135,8 @@ fn cut_last(pbufs: &mut SmallVec<Pbuf, 4>, seat: &mut PoolSeat, n: u32) -> u32
     ensures less { result < n }
     ensures chain { IsChain seat.new.holder.table pbufs.new.items }
     ensures cut { IsCutTo seat.old seat.new pbufs.old.items pbufs.new.items }
-    ensures capacity { pbufs.new.capacity ≡ pbufs.old.capacity }
+    ensures capacity { vec_capacity pbufs.new ≡ vec_capacity pbufs.old }
 {
-    let _held = pbufs.len();
     let Some(mut last) = pbufs.pop() else {
         return 0;
     };

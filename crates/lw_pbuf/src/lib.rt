@@ -10,16 +10,16 @@ mod free;
 mod make;
 mod parts;
 mod payload;
-mod pbuf;
 mod share;
 mod take;
 #[cfg(test)]
 mod tests;
+#[cfg(test)]
+mod thread_tests;
 
 pub use chain::Chain;
 pub use free::pbuf_free;
 pub use make::{AllocFault, pbuf_alloc};
-pub use pbuf::{Body, Pbuf};
-pub use pbuf_seats::{Free, PoolSeat};
+pub use pbuf_seats::{Body, Free, Pbuf, PoolSeat};
 pub use share::pbuf_ref;
 pub use std::alloc::AllocError as NoMemory;

@@ -1,21 +1,19 @@
 //! How a chain is made.
-ghost use Rattle.std.specs.Prelude.{◌≡◌, ◌+◌, ◌-◌, ◌^◌, ◌<◌, ◌≤◌, [], length, map, true, All, IfOk, IfErr, IsOk};
+ghost use Rattle.std.specs.Prelude.{◌≡◌, ◌+◌, ◌-◌, ◌^◌, ◌<◌, ◌≤◌, length, true, All, IfOk, IfErr, IsOk};
 ghost use Rattle.std.specs.Arc.{arc_value};
 ghost use Rattle.lw_payload.specs.declared.kinds.Kind.{Kind};
 ghost use Rattle.lw_payload.specs.Views.{pbufs_of};
 ghost use Rattle.lw_pbuf.specs.declared.make.AllocFault.{AllocFault};
-ghost use Rattle.lw_pbuf.specs.Chains.{IsOf};
-ghost use Rattle.lw_pbuf.specs.Takes.{concat, is_counted};
+ghost use Rattle.lw_pbuf.specs.Chains.{joined, all_own, IsOf};
+ghost use Rattle.lw_pbuf.specs.Takes.{is_counted};
 ghost use Rattle.lw_pbuf.specs.Makes.{longest_of, granted_of, denied_of, IsAlloc, IsDenied, KeepsSeat};
 
 use crate::chain::Chain;
-use crate::free::free_all;
-use crate::pbuf::Pbuf;
+use crate::free::{free_all, keep_from};
 use crate::take::{bodies, fill};
 use lw_payload::Kind;
 use pbuf_counts::Counts;
-use pbuf_seats::PoolSeat;
-use smallvec::SmallVec;
+use pbuf_seats::{Pbuf, PoolSeat};
 use std::alloc::{AllocError, Global};
 use std::sync::Arc;
 
@@ -105,29 +103,24 @@ pub fn pbuf_alloc(
         return Err(AllocFault::TooLong);
     }
     let counts = seat.counts()?;
-    let bodies = bodies(alloc, seat, kind, octets)?;
-    let pbufs = SmallVec::with_capacity(alloc, bodies.len())?;
-    chain_of(seat, kind, octets, counts, bodies, pbufs)
+    let pbufs = bodies(alloc, seat, kind, octets)?;
+    chain_of(seat, kind, octets, counts, pbufs)
 }
 
-// A chain of bodies that hold the octets, each in a pbuf of the kind.
+// A chain of these pbufs, which hold the octets and have no owners yet.
 fn chain_of(
     seat: &mut PoolSeat,
     kind: Kind,
     octets: &[u8],
     counts: Arc<Counts>,
-    bodies: SmallVec<Vec<u8>, 4>,
-    mut pbufs: SmallVec<Pbuf, 4>,
+    mut pbufs: Vec<Pbuf>,
 ) -> Result<Chain, AllocFault>
     requires table { arc_value counts ≡ seat.old.holder.table }
-    requires fits { length octets.now ≤ longest_of kind }
     requires small { length octets.now ≤ 65535 }
-    requires octets { concat (map (λ b. b.items) bodies.items) ≡ octets.now }
-    requires few { length bodies.items ≡ pbufs_of kind (length octets.now) }
-    requires some { All (λ b. 0 < length b.items) bodies.items }
-    requires short { All (λ b. length b.items < 2 ^ 32) bodies.items }
-    requires none { pbufs.items ≡ [] }
-    requires room { length bodies.items ≤ pbufs.capacity }
+    requires octets { joined pbufs.items ≡ octets.now }
+    requires few { length pbufs.items ≡ pbufs_of kind (length octets.now) }
+    requires some { All (λ p. 0 < length p.octets) pbufs.items }
+    requires own { all_own pbufs.items ≡ true }
     requires right { is_counted seat.old kind ≡ true → seat.old.holder.rights ≡ 1 }
     requires countable { kind ≡ Kind.Pool → seat.old.makes.made + seat.old.makes.refused < 2 ^ 64 - 1 }
     requires settled { kind ≡ Kind.Pool → seat.old.claimed ≡ 0 }
@@ -136,10 +129,12 @@ fn chain_of(
     ensures empty { IfErr result (λ e. (e ≡ AllocFault.PoolEmpty kind) × IsDenied seat.old seat.new kind (length octets.now)) }
     ensures keeps { KeepsSeat seat.old seat.new kind (length octets.now) }
 {
-    if fill(seat, kind, bodies, &mut pbufs) {
+    let taken = fill(seat, kind, pbufs.as_mut_slice());
+    if taken == pbufs.len() {
         granted(seat, kind, octets.len() as u32);
         return Ok(Chain::of(counts, pbufs));
     }
+    keep_from(taken, &mut pbufs, seat);
     free_all(pbufs, seat);
     denied(seat, kind, octets.len() as u32);
     Err(AllocFault::PoolEmpty(kind))

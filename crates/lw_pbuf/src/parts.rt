@@ -4,7 +4,6 @@ ghost use Rattle.lw_pbuf.specs.Chains.{IsChain};
 
 use crate::NoMemory;
 use crate::chain::Chain;
-use smallvec::SmallVec;
 use std::mem;
 use std::sync::Arc;
 
@@ -21,7 +20,7 @@ impl Chain {
             return Ok(None);
         }
         let counts = Arc::try_clone(&self.counts)?;
-        let mut firsts = SmallVec::new(*self.pbufs.allocator());
+        let mut firsts = Vec::with_capacity(*self.pbufs.allocator(), 1)?;
         firsts.push_reserved(self.pbufs.remove(0));
         let pbufs = mem::replace(&mut self.pbufs, firsts);
         Ok(Some(Chain { counts, pbufs }))

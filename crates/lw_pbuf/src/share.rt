@@ -1,6 +1,5 @@
 //! Shares: a second chain of the same octets, with owners of its own.
-ghost use Rattle.std.specs.Prelude.{◌≡◌, ◌+◌, ◌^◌, ◌<◌, ◌≤◌, Bool, true, false, length, map, All, IsOk, IsTrue, IfOk, OnOk, OnErr};
-ghost use Rattle.std.specs.Arc.{arc_value};
+ghost use Rattle.std.specs.Prelude.{◌≡◌, ◌+◌, ◌^◌, ◌<◌, ◌≤◌, Bool, true, false, length, map, vec_capacity, All, IsOk, IsTrue, IfOk, OnOk, OnErr};
 ghost use Rattle.lw_payload.specs.Views.{Slot};
 ghost use Rattle.lw_payload.specs.declared.kinds.ShareFault.{ShareFault};
 ghost use Rattle.lw_payload.specs.declared.kinds.Kind.{Kind};
@@ -11,10 +10,9 @@ ghost use Rattle.lw_pbuf.specs.Shares.{handed, as_shared, AreWindows, MayShare, 
 
 use crate::NoMemory;
 use crate::chain::Chain;
-use crate::pbuf::{Body, Pbuf};
+use crate::free::keep_from;
 use lw_payload::ShareFault;
-use pbuf_seats::PoolSeat;
-use smallvec::SmallVec;
+use pbuf_seats::{Body, Pbuf, PoolSeat};
 use std::alloc::Global;
 use std::sync::Arc;
 
@@ -76,8 +74,7 @@ impl Chain {
             return Err(ShareFault::NoMemory);
         }
         let counts = Arc::try_clone(&self.counts)?;
-        let total = self.tot_len(0);
-        let mut pbufs = windows(&mut self.pbufs, total, seat)?;
+        let mut pbufs = windows(&mut self.pbufs, seat)?;
         add_owners(self.pbufs.as_mut_slice(), pbufs.as_mut_slice(), seat, hands);
         Ok(Chain { counts, pbufs })
     }
@@ -112,54 +109,23 @@ fn has_rooms(pbufs: &[Pbuf], seat: &PoolSeat) -> bool
 
 // The same windows without owners, on bodies that are shared from now on.
 // The buffers that they leave go to the seat's spare ones.
-fn windows(
-    pbufs: &mut SmallVec<Pbuf, 4>,
-    total: u32,
-    seat: &mut PoolSeat,
-) -> Result<SmallVec<Pbuf, 4>, NoMemory>
-    requires { length (joined pbufs.old.items) < 2 ^ 32 }
+fn windows(pbufs: &mut Vec<Pbuf>, seat: &mut PoolSeat) -> Result<Vec<Pbuf>, NoMemory>
     ensures same { OnOk result (pbufs.new.items ≡ map as_shared pbufs.old.items) }
     ensures windows { IfOk result (λ ps. AreWindows pbufs.old.items ps.items) }
-    ensures capacity { pbufs.new.capacity ≡ pbufs.old.capacity }
+    ensures capacity { vec_capacity pbufs.new ≡ vec_capacity pbufs.old }
     ensures err { OnErr result (pbufs.new ≡ pbufs.old) }
     ensures seat { seat.new ≡ seat.old }
 {
-    if all_shared(pbufs.as_slice()) {
-        return copies(pbufs.as_slice(), *pbufs.allocator());
-    }
     let alloc = *pbufs.allocator();
-    let octets = octets_of(pbufs.as_slice(), total, alloc)?;
-    let body = Arc::new(alloc, octets)?;
-    let theirs = cut_up(&body, pbufs.as_slice(), alloc)?;
-    let mut mine = copies(theirs.as_slice(), alloc)?;
+    let theirs = copies(pbufs.as_slice(), alloc, seat)?;
+    if all_shared(pbufs.as_slice()) {
+        return Ok(theirs);
+    }
+    let mut mine = copies(theirs.as_slice(), alloc, seat)?;
     adopt(pbufs.as_mut_slice(), mine.as_mut_slice());
-    keep_bodies(mine, seat);
+    keep_from(0, &mut mine, seat);
+    seat.keep_list(mine);
     Ok(theirs)
-}
-
-// Gives the buffers of bodies that are not used any more to the seat.
-fn keep_bodies(pbufs: SmallVec<Pbuf, 4>, seat: &mut PoolSeat)
-    ensures { seat.new ≡ seat.old }
-{
-    for pbuf in pbufs {
-        keep_body(pbuf, seat);
-    }
-}
-
-// The buffer of one body.
-fn keep_body(pbuf: Pbuf, seat: &mut PoolSeat)
-    ensures { seat.new ≡ seat.old }
-{
-    let Pbuf {
-        owner: _owner,
-        body,
-        from: _,
-        to: _,
-    } = pbuf;
-    match body {
-        Body::Own(buffer) => seat.keep_buffer(buffer),
-        Body::Shared(_) => {}
-    }
 }
 
 // Whether all bodies are shared.
@@ -174,42 +140,34 @@ fn all_shared(pbufs: &[Pbuf]) -> bool
     true
 }
 
-// All octets, of which there should be so many.
-fn octets_of(pbufs: &[Pbuf], total: u32, alloc: Global) -> Result<Vec<u8>, NoMemory>
-    ensures { IfOk result (λ v. v.items ≡ joined pbufs.now) }
+// Windows on shared bodies that have the octets of these pbufs, with no owners yet.
+fn copies(pbufs: &[Pbuf], alloc: Global, seat: &mut PoolSeat) -> Result<Vec<Pbuf>, NoMemory>
+    ensures windows { IfOk result (λ ps. AreWindows pbufs.now ps.items) }
+    ensures same { seat.new ≡ seat.old }
 {
-    let mut octets = Vec::with_capacity(alloc, total as usize)?;
+    let mut windows = seat.list(alloc, pbufs.len())?;
     for pbuf in pbufs {
-        octets.extend_from_slice(pbuf.octets())?;
-    }
-    Ok(octets)
-}
-
-// Windows like those of these pbufs, of which each has a shared body.
-fn copies(pbufs: &[Pbuf], alloc: Global) -> Result<SmallVec<Pbuf, 4>, NoMemory>
-    ensures { IfOk result (λ ps. AreWindows pbufs.now ps.items) }
-{
-    let mut windows = SmallVec::with_capacity(alloc, pbufs.len())?;
-    for pbuf in pbufs {
-        windows.push(pbuf.copy()?)?;
+        windows.push_reserved(copy(pbuf, alloc, seat)?);
     }
     Ok(windows)
 }
 
-// Windows with the octets of these pbufs on one body, which has all of them.
-fn cut_up(body: &Arc<Vec<u8>>, pbufs: &[Pbuf], alloc: Global) -> Result<SmallVec<Pbuf, 4>, NoMemory>
-    requires all { (arc_value body.now).items ≡ joined pbufs.now }
-    requires short { length (joined pbufs.now) < 2 ^ 32 }
-    ensures { IfOk result (λ ps. AreWindows pbufs.now ps.items) }
+// A window on a shared body that has the octets of this pbuf: on the same body where that is shared.
+fn copy(pbuf: &Pbuf, alloc: Global, seat: &mut PoolSeat) -> Result<Pbuf, NoMemory>
+    ensures octets { IfOk result (λ p. p.octets ≡ pbuf.now.octets) }
+    ensures own { IfOk result (λ p. p.own ≡ false) }
+    ensures same { seat.new ≡ seat.old }
 {
-    let mut windows = SmallVec::with_capacity(alloc, pbufs.len())?;
-    let mut from = 0;
-    for pbuf in pbufs {
-        let to = from + pbuf.len();
-        windows.push(Pbuf::window(Arc::try_clone(body)?, from, to))?;
-        from = to;
+    match &pbuf.body {
+        Body::Own(_) => {
+            let body = seat.shared_buffer(alloc, pbuf.octets())?;
+            Ok(Pbuf::window(body, 0, pbuf.len()))
+        }
+        Body::Shared(body) => {
+            let body = Arc::try_clone(body)?;
+            Ok(Pbuf::window(body, pbuf.from, pbuf.to))
+        }
     }
-    Ok(windows)
 }
 
 // Puts the windows of `mine` in the place of those of the pbufs.

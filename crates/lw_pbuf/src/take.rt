@@ -1,20 +1,18 @@
 //! How the pbufs of a chain are taken.
-ghost use Rattle.std.specs.Prelude.{◌≡◌, ◌+◌, ◌-◌, ◌^◌, ◌<◌, ◌≤◌, [], length, map, All, IfOk, IfSome, IsNone, IsTrue, true, false};
+ghost use Rattle.std.specs.Prelude.{◌≡◌, ◌+◌, ◌-◌, ◌^◌, ◌<◌, ◌≤◌, length, take, All, IfOk, IfSome, IsNone, true};
 ghost use Rattle.lw_payload.specs.declared.kinds.Kind.{Kind};
 ghost use Rattle.lw_payload.specs.Views.{pbufs_of};
 ghost use Rattle.lw_pbuf.specs.Chains.{joined, all_own};
-ghost use Rattle.lw_pbuf.specs.Takes.{concat, is_counted, places_of, IsTaken, AreTaken, GivesNone, IsTried, AreTried, AllTried};
+ghost use Rattle.lw_pbuf.specs.Takes.{contents, is_counted, places_of, IsTaken, AreTaken, GivesNone, IsTried, AreTried, AllTried};
 ghost use Rattle.lw_pbuf.specs.Makes.{body_of, longest_of};
 
 use crate::NoMemory;
-use crate::pbuf::Pbuf;
 use lw_payload::Kind;
-use pbuf_seats::{Owner, PoolSeat};
-use smallvec::{IntoIter, SmallVec};
+use pbuf_seats::{Owner, Pbuf, PoolSeat};
 use std::alloc::Global;
 
-/// So many octets a pbuf of the kind has at most.
-pub(crate) fn body_size(kind: Kind) -> usize
+// So many octets a pbuf of the kind has at most.
+fn body_size(kind: Kind) -> usize
     ensures size { result ≡ body_of kind }
     ensures some { 0 < result }
     ensures short { result < 2 ^ 32 }
@@ -25,33 +23,43 @@ pub(crate) fn body_size(kind: Kind) -> usize
     }
 }
 
-/// The octets in as few bodies of a kind as hold them, none of which is empty.
+// So many pbufs of the kind hold so many octets.
+fn pbufs_for(kind: Kind, octets: usize) -> usize
+    ensures { result ≡ pbufs_of kind octets }
+{
+    match kind {
+        Kind::Pool => octets.div_ceil(512),
+        Kind::Ram | Kind::Rom | Kind::Ref => octets.min(1),
+    }
+}
+
+/// The octets in as few pbufs of a kind as hold them. None of these is empty, and none has an owner yet.
 pub(crate) fn bodies(
     alloc: Global,
     seat: &mut PoolSeat,
     kind: Kind,
     octets: &[u8],
-) -> Result<SmallVec<Vec<u8>, 4>, NoMemory>
+) -> Result<Vec<Pbuf>, NoMemory>
     requires fits { length octets.now ≤ longest_of kind }
-    ensures octets { IfOk result (λ bs. concat (map (λ b. b.items) bs.items) ≡ octets.now) }
-    ensures some { IfOk result (λ bs. All (λ b. 0 < length b.items) bs.items) }
-    ensures short { IfOk result (λ bs. All (λ b. length b.items < 2 ^ 32) bs.items) }
-    ensures few { IfOk result (λ bs. length bs.items ≡ pbufs_of kind (length octets.now)) }
+    ensures octets { IfOk result (λ ps. joined ps.items ≡ octets.now) }
+    ensures some { IfOk result (λ ps. All (λ p. 0 < length p.octets) ps.items) }
+    ensures own { IfOk result (λ ps. all_own ps.items ≡ true) }
+    ensures few { IfOk result (λ ps. length ps.items ≡ pbufs_of kind (length octets.now)) }
     ensures same { seat.new ≡ seat.old }
 {
     let size = body_size(kind);
-    let mut bodies = SmallVec::new(alloc);
+    let mut pbufs = seat.list(alloc, pbufs_for(kind, octets.len()))?;
     let mut rest = octets;
     while !rest.is_empty() {
         let (front, back) = rest.split_at(rest.len().min(size));
-        bodies.push(seat.buffer(alloc, front)?)?;
+        pbufs.push_reserved(Pbuf::whole(seat.buffer(alloc, front)?));
         rest = back;
     }
-    Ok(bodies)
+    Ok(pbufs)
 }
 
-/// Whether the counts of this kind are atomic for the seat.
-pub(crate) fn counted(seat: &PoolSeat, kind: Kind) -> bool
+// Whether the counts of this kind are atomic for the seat.
+fn counted(seat: &PoolSeat, kind: Kind) -> bool
     ensures { result ≡ is_counted seat.now kind }
 {
     match kind {
@@ -131,48 +139,24 @@ fn take_from(seat: &mut PoolSeat, kind: Kind, turn: &mut u64, end: u64) -> Optio
     None
 }
 
-// Keeps the buffers of bodies for which there is no pbuf.
-fn keep_all(seat: &mut PoolSeat, bodies: IntoIter<Vec<u8>, 4>)
-    ensures { seat.new ≡ seat.old }
-{
-    for body in bodies {
-        seat.keep_buffer(body);
-    }
-}
-
-/// Takes a pbuf for each body, as long as there are any without an owner; whether there were enough.
-pub(crate) fn fill(
-    seat: &mut PoolSeat,
-    kind: Kind,
-    bodies: SmallVec<Vec<u8>, 4>,
-    pbufs: &mut SmallVec<Pbuf, 4>,
-) -> bool
-    requires none { pbufs.old.items ≡ [] }
-    requires room { length bodies.items ≤ pbufs.old.capacity }
-    requires some { All (λ b. 0 < length b.items) bodies.items }
-    requires short { All (λ b. length b.items < 2 ^ 32) bodies.items }
+/// Takes an owner for each of these pbufs, which have none, as long as there are pbufs of the kind without one; how many got theirs.
+pub(crate) fn fill(seat: &mut PoolSeat, kind: Kind, pbufs: &mut [Pbuf]) -> usize
     requires right { is_counted seat.old kind ≡ true → seat.old.holder.rights ≡ 1 }
     requires countable { kind ≡ Kind.Pool → seat.old.makes.made + seat.old.makes.refused < 2 ^ 64 - 1 }
-    requires few { is_counted seat.old kind ≡ true → seat.old.claimed + length bodies.items < 2 ^ 20 }
-    ensures taken { AreTaken seat.old seat.new kind pbufs.new.items }
-    ensures some { All (λ p. 0 < length p.octets) pbufs.new.items }
-    ensures own { all_own pbufs.new.items ≡ true }
-    ensures octets { IsTrue result → joined pbufs.new.items ≡ concat (map (λ b. b.items) bodies.items) }
-    ensures parts { IsTrue result → length pbufs.new.items ≡ length bodies.items }
-    ensures few { result ≡ false → length pbufs.new.items < length bodies.items }
-    ensures all { result ≡ false → AllTried seat.old seat.new kind }
+    requires few { is_counted seat.old kind ≡ true → seat.old.claimed + length pbufs.old < 2 ^ 20 }
+    ensures taken { AreTaken seat.old seat.new kind (take result pbufs.new) }
+    ensures same { contents pbufs.new ≡ contents pbufs.old }
+    ensures within { result ≤ length pbufs.old }
+    ensures all { result < length pbufs.old → AllTried seat.old seat.new kind }
 {
     let places = u64::from(places(seat, kind));
     let mut turn = first_turn(seat, kind, places);
     let end = turn + places;
-    let mut bodies = bodies.into_iter();
-    while let Some(body) = bodies.next() {
+    for i in 0..pbufs.len() {
         let Some(owner) = take_from(seat, kind, &mut turn, end) else {
-            seat.keep_buffer(body);
-            keep_all(seat, bodies);
-            return false;
+            return i;
         };
-        pbufs.push_reserved(Pbuf::whole(owner, body));
+        pbufs[i].set_owner(owner);
     }
-    true
+    pbufs.len()
 }

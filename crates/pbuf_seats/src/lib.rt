@@ -6,6 +6,7 @@ mod hints;
 mod kept;
 mod makes;
 mod owner;
+mod pbuf;
 mod seat;
 mod spare;
 #[cfg(test)]
@@ -14,5 +15,6 @@ mod tests;
 pub use kept::Kept;
 pub use makes::Makes;
 pub use owner::{Owner, Row};
+pub use pbuf::{Body, Pbuf};
 pub use seat::{Free, PoolSeat};
 pub use std::alloc::AllocError as NoMemory;

@@ -1,5 +1,5 @@
 //! A seat: what pbufs are taken from, and given up to.
-ghost use Rattle.std.specs.Prelude.{◌≡◌, ℕ, ◌+◌, ◌-◌, ◌^◌, ◌<◌, ◌≤◌, [], true, false, length, replicate, ◌∷◌, ◌↔◌, min, if◌then◌else◌, IsTrue, IsSome, IsNone, IfSome, IfOk, OnErr};
+ghost use Rattle.std.specs.Prelude.{◌≡◌, ℕ, ◌+◌, ◌-◌, ◌^◌, ◌<◌, ◌≤◌, [], true, false, length, vec_capacity, replicate, ◌∷◌, ◌↔◌, min, if◌then◌else◌, IsTrue, IsSome, IsNone, IfSome, IfOk, OnErr};
 ghost use Rattle.std.specs.Arc.{arc_value};
 ghost use Rattle.lw_payload.specs.Views.{Slot, pbufs_of};
 ghost use Rattle.lw_payload.specs.declared.kinds.Kind.{Kind};
@@ -15,6 +15,7 @@ use crate::hints::Hints;
 use crate::kept::Kept;
 use crate::makes::Makes;
 use crate::owner::{Owner, Row};
+use crate::pbuf::Pbuf;
 use crate::spare::Spare;
 use lw_base::Limits;
 use lw_payload::Kind;
@@ -29,8 +30,11 @@ const FIRST_ADDS: u32 = 65_534;
 // So often the first seat may split.
 const SPLITS: u32 = 65_535;
 
-// So many buffers without a use a seat keeps at most.
+// So many buffers, shared buffers and lists without a use a seat keeps at most.
 const SPARE: u32 = 1_024;
+
+// So many of the buffers may be long.
+const LONG: u32 = 8;
 
 /// How many pbufs of each kind have no owner.
 #[derive(Clone, Copy, Debug, PartialEq, Eq)]
@@ -96,7 +100,7 @@ impl PoolSeat {
             makes: Makes::NONE,
             splits: SPLITS,
             claimed: 0,
-            spare: Spare::new(alloc, SPARE)?,
+            spare: Spare::new(alloc, SPARE, LONG)?,
             hints: Hints::NONE,
         })
     }
@@ -115,7 +119,7 @@ impl PoolSeat {
     {
         let kept = Kept::new(alloc, 0, 0, 0, 0)?;
         let counts = Arc::try_clone(&self.counts)?;
-        let spare = Spare::new(alloc, SPARE)?;
+        let spare = Spare::new(alloc, SPARE, LONG)?;
         let holder = self.counts.part(&mut self.holder, claims);
         self.splits -= 1;
         let asked = if claims { self.makes.asked } else { 0 };
@@ -254,14 +258,44 @@ impl PoolSeat {
         ensures octets { IfOk result (λ b. b.items ≡ octets.now) }
         ensures same { self.new ≡ self.old }
     {
-        self.spare.fill(alloc, octets)
+        self.spare.buffer(alloc, octets)
     }
 
     /// Keeps a buffer for `buffer` where there is room for it. Takes no memory.
     pub fn keep_buffer(&mut self, buffer: Vec<u8>)
         ensures { self.new ≡ self.old }
     {
-        self.spare.keep(buffer);
+        self.spare.keep_buffer(buffer);
+    }
+
+    /// A buffer of these octets that chains can share, likewise.
+    pub fn shared_buffer(&mut self, alloc: Global, octets: &[u8]) -> Result<Arc<Vec<u8>>, NoMemory>
+        ensures octets { IfOk result (λ b. (arc_value b).items ≡ octets.now) }
+        ensures same { self.new ≡ self.old }
+    {
+        self.spare.shared(alloc, octets)
+    }
+
+    /// Keeps a shared buffer for `shared_buffer` where no other chain has it. Takes no memory.
+    pub fn keep_shared_buffer(&mut self, buffer: Arc<Vec<u8>>)
+        ensures { self.new ≡ self.old }
+    {
+        self.spare.keep_shared(buffer);
+    }
+
+    /// An empty list with room for so many pbufs, likewise.
+    pub fn list(&mut self, alloc: Global, n: usize) -> Result<Vec<Pbuf>, NoMemory>
+        ensures list { IfOk result (λ l. (l.items ≡ []) × (n ≤ vec_capacity l)) }
+        ensures same { self.new ≡ self.old }
+    {
+        self.spare.list(alloc, n)
+    }
+
+    /// Keeps a list for `list` where there is room for it. Takes no memory.
+    pub fn keep_list(&mut self, list: Vec<Pbuf>)
+        ensures { self.new ≡ self.old }
+    {
+        self.spare.keep_list(list);
     }
 
     /// Counts a make of POOL of so many octets that is made.

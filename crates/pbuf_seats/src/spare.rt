@@ -1,33 +1,56 @@
-//! Buffers for the bodies of pbufs to come.
-ghost use Rattle.std.specs.Prelude.{◌≡◌, IfOk};
+//! Memory for chains to come.
+ghost use Rattle.std.specs.Prelude.{◌≡◌, ◌≤◌, [], vec_capacity, IfOk};
+ghost use Rattle.std.specs.Arc.{arc_value};
 
+use crate::pbuf::Pbuf;
 use std::alloc::{AllocError, Global};
+use std::sync::Arc;
 
-// A buffer has room for so many octets at least: for those of a pbuf of POOL.
+// A new buffer has room for so many octets at least: for those of a pbuf of POOL.
 const SMALLEST: usize = 512;
 
-// A buffer with room for more octets is not kept.
-const LARGEST: usize = 2_048;
+// A buffer with room for more octets is long.
+const SHORT: usize = 2_048;
 
-/// Buffers that nobody uses, as many as its list has room for.
+// A buffer with room for more octets is not kept.
+const LONGEST: usize = 65_536;
+
+// So many pbufs a new list has room for at least.
+const PBUFS: usize = 4;
+
+// A list with room for more pbufs is not kept.
+const MOST_PBUFS: usize = 128;
+
+/// Buffers, shared buffers and lists of pbufs that nobody uses, as many as there is room for.
 #[derive(Drop)]
 pub struct Spare {
     buffers: Vec<Vec<u8>>,
+    long: Vec<Vec<u8>>,
+    shared: Vec<Arc<Vec<u8>>>,
+    lists: Vec<Vec<Pbuf>>,
 }
 
 impl Spare {
-    /// None yet, and room for so many.
-    pub(crate) fn new(alloc: Global, most: u32) -> Result<Spare, AllocError> {
+    /// None yet, and room for so many of each, and for so many long buffers.
+    pub(crate) fn new(alloc: Global, most: u32, long: u32) -> Result<Spare, AllocError> {
         Ok(Spare {
             buffers: Vec::with_capacity(alloc, most as usize)?,
+            long: Vec::with_capacity(alloc, long as usize)?,
+            shared: Vec::with_capacity(alloc, most as usize)?,
+            lists: Vec::with_capacity(alloc, most as usize)?,
         })
     }
 
     /// A buffer of these octets: a spare one where there is any, else a new one.
-    pub(crate) fn fill(&mut self, alloc: Global, octets: &[u8]) -> Result<Vec<u8>, AllocError>
+    pub(crate) fn buffer(&mut self, alloc: Global, octets: &[u8]) -> Result<Vec<u8>, AllocError>
         ensures { IfOk result (λ b. b.items ≡ octets.now) }
     {
-        let mut buffer = match self.buffers.pop() {
+        let kept = if octets.len() <= SHORT {
+            &mut self.buffers
+        } else {
+            &mut self.long
+        };
+        let mut buffer = match kept.pop() {
             Some(spare) => spare,
             None => Vec::with_capacity(alloc, octets.len().max(SMALLEST))?,
         };
@@ -37,10 +60,64 @@ impl Spare {
     }
 
     /// Keeps a buffer where there is room for it, and lets it go where there is none. Takes no memory.
-    pub(crate) fn keep(&mut self, buffer: Vec<u8>) {
-        let room = self.buffers.len() < self.buffers.capacity();
-        if room && buffer.capacity() <= LARGEST {
-            self.buffers.push(buffer).unwrap();
+    pub(crate) fn keep_buffer(&mut self, buffer: Vec<u8>) {
+        let capacity = buffer.capacity();
+        let kept = if capacity <= SHORT {
+            &mut self.buffers
+        } else {
+            &mut self.long
+        };
+        if capacity <= LONGEST && kept.len() < kept.capacity() {
+            kept.push_reserved(buffer);
+        }
+    }
+
+    /// A shared buffer of these octets: a spare one where there is any, else a new one.
+    pub(crate) fn shared(
+        &mut self,
+        alloc: Global,
+        octets: &[u8],
+    ) -> Result<Arc<Vec<u8>>, AllocError>
+        ensures { IfOk result (λ b. (arc_value b).items ≡ octets.now) }
+    {
+        if let Some(mut spare) = self.shared.pop() {
+            if let Some(old) = Arc::get_mut(&mut spare) {
+                old.clear();
+                old.extend_from_slice(octets)?;
+                return Ok(spare);
+            }
+        }
+        let mut buffer = Vec::with_capacity(alloc, octets.len().max(SMALLEST))?;
+        buffer.extend_from_slice(octets)?;
+        Ok(Arc::new(alloc, buffer)?)
+    }
+
+    /// Keeps a shared buffer that nobody else has, where there is room for it. Takes no memory.
+    pub(crate) fn keep_shared(&mut self, mut buffer: Arc<Vec<u8>>) {
+        if let Some(octets) = Arc::get_mut(&mut buffer) {
+            if octets.capacity() <= SHORT && self.shared.len() < self.shared.capacity() {
+                self.shared.push_reserved(buffer);
+            }
+        }
+    }
+
+    /// An empty list with room for so many pbufs: a spare one where there is any, else a new one.
+    pub(crate) fn list(&mut self, alloc: Global, n: usize) -> Result<Vec<Pbuf>, AllocError>
+        ensures { IfOk result (λ l. (l.items ≡ []) × (n ≤ vec_capacity l)) }
+    {
+        let mut list = match self.lists.pop() {
+            Some(spare) => spare,
+            None => Vec::with_capacity(alloc, n.max(PBUFS))?,
+        };
+        list.clear();
+        list.reserve(n)?;
+        Ok(list)
+    }
+
+    /// Keeps a list where there is room for it. Takes no memory.
+    pub(crate) fn keep_list(&mut self, list: Vec<Pbuf>) {
+        if list.capacity() <= MOST_PBUFS && self.lists.len() < self.lists.capacity() {
+            self.lists.push_reserved(list);
         }
     }
 }

@@ -1,6 +1,7 @@
-use crate::{Free, PoolSeat};
+use crate::{Free, Pbuf, PoolSeat};
 use lw_base::Limits;
 use lw_payload::Kind;
+use std::sync::Arc;
 use std::test::Fail;
 
 const SMALL: Limits = Limits {
@@ -83,6 +84,36 @@ fn a_buffer_that_is_kept_serves_again(rt: HostRuntime) -> Result<(), Fail> {
     assert!(rt; second.capacity() >= 600);
     let third = seat.buffer(rt.alloc(), b"pbuf")?;
     assert!(rt; third.capacity() == 512);
+    Ok(())
+}
+
+#[test]
+fn a_shared_buffer_that_is_kept_serves_again(rt: HostRuntime) -> Result<(), Fail> {
+    let mut seat = PoolSeat::new(rt.alloc(), &SMALL, false)?;
+    let long = vec![in rt.alloc(); 7u8; 600]?;
+    let first = seat.shared_buffer(rt.alloc(), &long)?;
+    let other = Arc::try_clone(&first)?;
+    seat.keep_shared_buffer(first);
+    seat.keep_shared_buffer(other);
+    let second = seat.shared_buffer(rt.alloc(), b"pbuf")?;
+    assert!(rt; second.as_slice() == b"pbuf".as_slice());
+    assert!(rt; second.capacity() >= 600);
+    let third = seat.shared_buffer(rt.alloc(), b"pbuf")?;
+    assert!(rt; third.capacity() == 512);
+    Ok(())
+}
+
+#[test]
+fn a_list_that_is_kept_serves_again(rt: HostRuntime) -> Result<(), Fail> {
+    let mut seat = PoolSeat::new(rt.alloc(), &SMALL, false)?;
+    let mut first = seat.list(rt.alloc(), 9)?;
+    first.push_reserved(Pbuf::whole(seat.buffer(rt.alloc(), b"pbuf")?));
+    seat.keep_list(first);
+    let second = seat.list(rt.alloc(), 2)?;
+    assert!(rt; second.is_empty());
+    assert!(rt; second.capacity() >= 9);
+    let third = seat.list(rt.alloc(), 2)?;
+    assert!(rt; third.capacity() == 4);
     Ok(())
 }
 

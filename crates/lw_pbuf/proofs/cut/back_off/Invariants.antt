@@ -1,11 +1,12 @@
 use Rattle.std.proofs.Common.{◌≡◌}
+use Rattle.std.specs.Prelude.{vec_capacity}
 use Rattle.lw_pbuf.proofs.Cutting.{BackCut}
 use Rattle.lw_pbuf.proofs.cut.back_off.Given as goal
 
 abbrev pub invariant-loop-left : goal.invariant-loop-left
 invariant-loop-left l = record {
   under_way : BackCut l.fn.seat l.seat l.fn.pbufs.items l.pbufs.items l.n l.left;
-  capacity : l.pbufs.capacity ≡ l.fn.pbufs.capacity;
+  capacity : vec_capacity l.pbufs ≡ vec_capacity l.fn.pbufs;
 }
 
 abbrev pub decreases-loop-left : goal.decreases-loop-left

@@ -1,5 +1,4 @@
-use Rattle.std.proofs.Common.{◌∙◌, List, get_or, ap, refl, arith}
-use Rattle.lw_pbuf.specs.Parts.{Part}
+use Rattle.std.proofs.Common.{refl, arith}
 use Rattle.lw_pbuf.proofs.Cutting.{front_whole, first_owner}
 use Rattle.lw_pbuf.proofs.cut.cut_first.Goals as goal
 
@@ -9,25 +8,25 @@ give_up-requires c = let r = c.requires in let a = r.some in let b = r.within in
 
 pub returns-clause-octets : goal.returns-clause-octets
 returns-clause-octets c = let r = c.requires in let e = c.remove-first.ensures in
-    (front_whole c.args.seat.now c.give_up.new.seat c.args.pbufs.now.items c.remove-first.new.self.items c.remove-first.result c.index-deref-0.result _ _ _ r.chain r.some r.within e.value
-    (c.index-deref-0.is ∙ ap (λ (l : List Part). get_or l 0 c.index-deref-0.result) c.deref.ensures) c.len-len.ensures c.if-n-len.false refl e.items c.give_up.ensures.spent).octets
+    (front_whole c.args.seat.now c.give_up.new.seat c.args.pbufs.now.items c.remove-first.new.self.items c.remove-first.result c.index.result.now _ _ _ r.chain r.some r.within e.value
+    c.index.ensures c.len-len.ensures c.if-n-len.false refl e.items c.give_up.ensures.spent).octets
 
 pub returns-clause-chain : goal.returns-clause-chain
 returns-clause-chain c = let r = c.requires in let e = c.remove-first.ensures in
-    (front_whole c.args.seat.now c.give_up.new.seat c.args.pbufs.now.items c.remove-first.new.self.items c.remove-first.result c.index-deref-0.result _ _ _ r.chain r.some r.within e.value
-    (c.index-deref-0.is ∙ ap (λ (l : List Part). get_or l 0 c.index-deref-0.result) c.deref.ensures) c.len-len.ensures c.if-n-len.false refl e.items c.give_up.ensures.spent).chain
+    (front_whole c.args.seat.now c.give_up.new.seat c.args.pbufs.now.items c.remove-first.new.self.items c.remove-first.result c.index.result.now _ _ _ r.chain r.some r.within e.value
+    c.index.ensures c.len-len.ensures c.if-n-len.false refl e.items c.give_up.ensures.spent).chain
 
 pub returns-clause-within : goal.returns-clause-within
 returns-clause-within c = let r = c.requires in let e = c.remove-first.ensures in
-    (front_whole c.args.seat.now c.give_up.new.seat c.args.pbufs.now.items c.remove-first.new.self.items c.remove-first.result c.index-deref-0.result _ _ _ r.chain r.some r.within e.value
-    (c.index-deref-0.is ∙ ap (λ (l : List Part). get_or l 0 c.index-deref-0.result) c.deref.ensures) c.len-len.ensures c.if-n-len.false refl e.items c.give_up.ensures.spent).within
+    (front_whole c.args.seat.now c.give_up.new.seat c.args.pbufs.now.items c.remove-first.new.self.items c.remove-first.result c.index.result.now _ _ _ r.chain r.some r.within e.value
+    c.index.ensures c.len-len.ensures c.if-n-len.false refl e.items c.give_up.ensures.spent).within
 
 pub returns-clause-less : goal.returns-clause-less
 returns-clause-less c = let r = c.requires in let e = c.remove-first.ensures in
-    (front_whole c.args.seat.now c.give_up.new.seat c.args.pbufs.now.items c.remove-first.new.self.items c.remove-first.result c.index-deref-0.result _ _ _ r.chain r.some r.within e.value
-    (c.index-deref-0.is ∙ ap (λ (l : List Part). get_or l 0 c.index-deref-0.result) c.deref.ensures) c.len-len.ensures c.if-n-len.false refl e.items c.give_up.ensures.spent).less
+    (front_whole c.args.seat.now c.give_up.new.seat c.args.pbufs.now.items c.remove-first.new.self.items c.remove-first.result c.index.result.now _ _ _ r.chain r.some r.within e.value
+    c.index.ensures c.len-len.ensures c.if-n-len.false refl e.items c.give_up.ensures.spent).less
 
 pub returns-clause-cut : goal.returns-clause-cut
 returns-clause-cut c = let r = c.requires in let e = c.remove-first.ensures in
-    (front_whole c.args.seat.now c.give_up.new.seat c.args.pbufs.now.items c.remove-first.new.self.items c.remove-first.result c.index-deref-0.result _ _ _ r.chain r.some r.within e.value
-    (c.index-deref-0.is ∙ ap (λ (l : List Part). get_or l 0 c.index-deref-0.result) c.deref.ensures) c.len-len.ensures c.if-n-len.false refl e.items c.give_up.ensures.spent).cut
+    (front_whole c.args.seat.now c.give_up.new.seat c.args.pbufs.now.items c.remove-first.new.self.items c.remove-first.result c.index.result.now _ _ _ r.chain r.some r.within e.value
+    c.index.ensures c.len-len.ensures c.if-n-len.false refl e.items c.give_up.ensures.spent).cut

@@ -2,9 +2,6 @@ use Rattle.std.proofs.Common.{ℕ, ◌-◌, take, ◌∙◌, ap, refl, arith}
 use Rattle.lw_pbuf.proofs.Cutting.{back_part, back_whole, last_owner}
 use Rattle.lw_pbuf.proofs.cut.cut_last.Goals as goal
 
-pub push_reserved-requires : goal.push_reserved-requires
-push_reserved-requires c = let f = c.len-held.ensures.fits in let v = c.len-held.ensures.value in let n = c.in-Some.ensures.len in let k = c.in-Some.ensures.capacity in (omega arith, omega arith)
-
 pub give_up-requires : goal.give_up-requires
 give_up-requires c = let r = c.requires in last_owner c.args.seat.now c.args.pbufs.now.items c.pop.new.self.items c.in-Some.last r.chain r.listed c.in-Some.ensures.items
 

@@ -1,5 +1,9 @@
-use Rattle.std.proofs.Common.{rules, Bool, true, false, cond, ◌≡◌, ◌≤◌, ◌++◌, ◌∷◌, [], length, refl, arith}
+use Rattle.std.proofs.Common.{rules, Bool, true, false, cond, ◌≡◌, ◌≤◌, ◌++◌, ◌∷◌, [], length, refl, ap, sym, ◌∙◌, subst, arith}
 use mir.Val.{bool_byte}
+use Rattle.pbuf_seats.specs.Owners.{ended_at}
+use Rattle.pbuf_seats.specs.Seats.{SeatSeen}
+use Rattle.lw_pbuf.specs.Chains.{IsSpent}
+use Rattle.lw_pbuf.specs.Takes.{GivesBack}
 use Rattle.lw_pbuf.proofs.Freed.{frees_first, frees_owner, frees_next, frees_last}
 use Rattle.lw_pbuf.proofs.free.free_all.Goals as goal
 
@@ -31,8 +35,13 @@ loop-pbuf-preserved c = let is : c.loop-pbuf.pbufs.items ≡ c.pop.new.self.item
     c.give_up.new.seat c.from-ended.result c.give_up.ensures.spent c.give_up.ensures.back (omega arith) (omega arith)
 
 pub returns : goal.returns
-returns c = let i = c.loop-pbuf.invariant in let none : length c.loop-pbuf.pbufs.items ≡ 0 = search rules in record {
-  spent = frees_last c.args.seat.now c.loop-pbuf.seat c.args.seat.now.holder.table c.args.pbufs.items c.loop-pbuf.pbufs.items c.loop-pbuf.ended i none;
-  ended = i.ends;
-  back = i.back;
-}
+returns c =
+    let i = c.loop-pbuf.invariant in
+    let none : length c.loop-pbuf.pbufs.items ≡ 0 = search rules in
+    let same = c.keep_list.ensures in
+    record {
+      spent = subst (λ (x : SeatSeen). IsSpent c.args.seat.now x c.args.pbufs.items) (sym same)
+          (frees_last c.args.seat.now c.loop-pbuf.seat c.args.seat.now.holder.table c.args.pbufs.items c.loop-pbuf.pbufs.items c.loop-pbuf.ended i none);
+      ended = ap ended_at same ∙ i.ends;
+      back = subst (λ (x : SeatSeen). GivesBack c.args.seat.now.holder x.holder) (sym same) i.back;
+    }

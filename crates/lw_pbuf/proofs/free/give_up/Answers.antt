@@ -2,7 +2,7 @@ use Rattle.std.proofs.Common.{◌∷◌, [], ap, sym, ◌∙◌, subst, arith}
 use Rattle.pbuf_seats.specs.declared.owner.Owner.{Owner}
 use Rattle.pbuf_seats.specs.Owners.{row_of, weight_of, ended_at}
 use Rattle.pbuf_seats.specs.Seats.{SeatSeen}
-use Rattle.lw_pbuf.specs.Parts.{Part}
+use Rattle.pbuf_seats.specs.Parts.{Part}
 use Rattle.lw_pbuf.specs.Chains.{IsSpent}
 use Rattle.lw_pbuf.specs.Takes.{GivesBack}
 use Rattle.lw_pbuf.proofs.Freed.{same_seat, gives_back, spent_one}

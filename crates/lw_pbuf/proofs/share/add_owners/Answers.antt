@@ -1,6 +1,6 @@
 use Rattle.std.proofs.Common.{◌≡◌, ◌<◌, length, get_or, refl, arith}
 use Rattle.std.proofs.lemmas.List.{get_or_default}
-use Rattle.lw_pbuf.specs.Parts.{Part}
+use Rattle.pbuf_seats.specs.Parts.{Part}
 use Rattle.lw_pbuf.proofs.Sharing.{owns_first, owns_owner, owns_room, owns_adds, owns_shared, owns_next, owns_last}
 use Rattle.lw_pbuf.proofs.share.add_owners.Goals as goal
 

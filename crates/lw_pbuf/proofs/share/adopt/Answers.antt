@@ -1,6 +1,6 @@
 use Rattle.std.proofs.Common.{◌<◌, length, get_or, refl, arith}
 use Rattle.std.proofs.lemmas.List.{get_or_default}
-use Rattle.lw_pbuf.specs.Parts.{Part}
+use Rattle.pbuf_seats.specs.Parts.{Part}
 use Rattle.lw_pbuf.proofs.Sharing.{adopts_first, adopts_next, adopts_last}
 use Rattle.lw_pbuf.proofs.share.adopt.Goals as goal
 

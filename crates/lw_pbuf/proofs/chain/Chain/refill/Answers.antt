@@ -1,6 +1,6 @@
 use Rattle.std.proofs.Common.{◌≡◌, ◌≤◌, ◌∙◌, ℕ, ◌-◌, List, length, length-take, ap, sym, subst, arith}
 use Rattle.std.specs.Arc.{arc_value}
-use Rattle.lw_pbuf.specs.Parts.{Part}
+use Rattle.pbuf_seats.specs.Parts.{Part}
 use Rattle.lw_pbuf.specs.Chains.{ChainSeen, joined, rows_in, IsChain}
 use Rattle.lw_pbuf.specs.Cuts.{IsCutTo, IsRewritten}
 use Rattle.lw_pbuf.proofs.Joined.{few_parts}
@@ -12,7 +12,7 @@ invariant_of-self c =
     let ps = c.self.inside.pbufs.items in
     let v : c.as_mut_slice.result.now ≡ ps = c.as_mut_slice.ensures.value in
     let same = subst (λ (l : List Part). IsRewritten l c.write_over.new.pbufs) v c.write_over.ensures.same in
-    subst (λ (l : List Part). IsChain (arc_value c.self.inside.counts) l) (sym (rewritten_all ps c.write_over.new.pbufs same))
+    subst (λ (l : List Part). IsChain (arc_value c.self.inside.counts) l) (sym (rewritten_all c.self.inside.pbufs.len ps c.write_over.new.pbufs c.self.inside.pbufs.ok.0 same))
     (rewritten_chain (arc_value c.self.inside.counts) ps c.write_over.new.pbufs same (
     let all = c.args.self.now.parts in
     let o = ap (λ (l : List ℕ). length l) c.write_over.ensures.octets in
@@ -28,7 +28,7 @@ returns-clause-cut c =
     let ps = c.self.inside.pbufs.items in
     let v : c.as_mut_slice.result.now ≡ ps = c.as_mut_slice.ensures.value in
     let same = subst (λ (l : List Part). IsRewritten l c.write_over.new.pbufs) v c.write_over.ensures.same in
-    subst (λ (l : List Part). IsCutTo c.args.seat.now c.cut_back.new.seat c.args.self.now.parts l) (sym (rewritten_all ps c.write_over.new.pbufs same))
+    subst (λ (l : List Part). IsCutTo c.args.seat.now c.cut_back.new.seat c.args.self.now.parts l) (sym (rewritten_all c.self.inside.pbufs.len ps c.write_over.new.pbufs c.self.inside.pbufs.ok.0 same))
     (rewritten_cut c.args.seat.now c.cut_back.new.seat c.args.self.now.parts ps c.write_over.new.pbufs
     (subst (λ (x : ChainSeen). IsCutTo c.args.seat.now c.cut_back.new.seat c.args.self.now.parts x.parts) (sym c.self.view_is) c.cut_back.ensures.cut) same)
 
@@ -37,7 +37,7 @@ returns-clause-of_seat c =
     let ps = c.self.inside.pbufs.items in
     let v : c.as_mut_slice.result.now ≡ ps = c.as_mut_slice.ensures.value in
     let same = subst (λ (l : List Part). IsRewritten l c.write_over.new.pbufs) v c.write_over.ensures.same in
-    let whole = rewritten_all ps c.write_over.new.pbufs same in
+    let whole = rewritten_all c.self.inside.pbufs.len ps c.write_over.new.pbufs c.self.inside.pbufs.ok.0 same in
     record {
       table = ap (λ (x : ChainSeen). x.table) c.self.view_is ∙ c.cut_back.ensures.of_seat.table;
       listed = λ s.
@@ -53,4 +53,4 @@ returns-clause-few c =
     let ps = c.self.inside.pbufs.items in
     let v : c.as_mut_slice.result.now ≡ ps = c.as_mut_slice.ensures.value in
     let same = subst (λ (l : List Part). IsRewritten l c.write_over.new.pbufs) v c.write_over.ensures.same in
-    subst (λ (l : List Part). length l ≤ length (joined l)) (sym (rewritten_all ps c.write_over.new.pbufs same)) (few_parts c.write_over.new.pbufs (rewritten_some ps c.write_over.new.pbufs same c.self.invariant.some))
+    subst (λ (l : List Part). length l ≤ length (joined l)) (sym (rewritten_all c.self.inside.pbufs.len ps c.write_over.new.pbufs c.self.inside.pbufs.ok.0 same)) (few_parts c.write_over.new.pbufs (rewritten_some ps c.write_over.new.pbufs same c.self.invariant.some))

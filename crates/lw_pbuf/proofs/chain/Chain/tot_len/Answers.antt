@@ -1,7 +1,7 @@
-use Rattle.std.proofs.Common.{rules, ℕ, ◌≡◌, ◌-◌, List, length, drop, get_or, ap, ◌∙◌, sym, arith}
+use Rattle.std.proofs.Common.{rules, ℕ, ◌≡◌, ◌-◌, List, length, drop, ap, sym, arith}
 use mathlib.Core.Logic.{dite}
 use native.Mathlib.Decide.{dec_le}
-use Rattle.lw_pbuf.specs.Parts.{Part}
+use Rattle.pbuf_seats.specs.Parts.{Part}
 use Rattle.lw_pbuf.specs.Chains.{ChainSeen, joined}
 use Rattle.lw_pbuf.proofs.Joined.{tot_len-step, tot_len-most, tot_len-end}
 use Rattle.lw_pbuf.proofs.chain.Chain.tot_len.Goals as goal
@@ -11,11 +11,11 @@ loop-at-init c = let n : c.len-at.result ≡ length c.self.inside.pbufs.items = 
 
 pub overflow_add-total : goal.overflow_add-total
 overflow_add-total c = let i = c.loop-at.invariant in let w = i.within in let t = c.loop-at-test.true in let b = i.behind in let l = c.len-total.ensures in let short = c.self.invariant.short in let m = tot_len-most c.self.inside.pbufs.items (c.loop-at.at - 1) in
-    let s = tot_len-step c.self.inside.pbufs.items (c.loop-at.at - 1) c.loop-at.at c.index-deref-at.result (omega arith) (omega arith) (c.index-deref-at.is ∙ ap (λ (l : List Part). get_or l (c.loop-at.at - 1) c.index-deref-at.result) c.deref.ensures) in omega arith
+    let s = tot_len-step c.self.inside.pbufs.items (c.loop-at.at - 1) c.loop-at.at c.index.result.now (omega arith) (omega arith) c.index.ensures in omega arith
 
 pub loop-at-preserved : goal.loop-at-preserved
 loop-at-preserved c = let i = c.loop-at.invariant in let w = i.within in let t = c.loop-at-test.true in let b = i.behind in let l = c.len-total.ensures in
-    let s = tot_len-step c.self.inside.pbufs.items (c.loop-at.at - 1) c.loop-at.at c.index-deref-at.result (omega arith) (omega arith) (c.index-deref-at.is ∙ ap (λ (l : List Part). get_or l (c.loop-at.at - 1) c.index-deref-at.result) c.deref.ensures) in record { within = omega arith; behind = omega arith; from = λ z. absurd (omega arith) }
+    let s = tot_len-step c.self.inside.pbufs.items (c.loop-at.at - 1) c.loop-at.at c.index.result.now (omega arith) (omega arith) c.index.ensures in record { within = omega arith; behind = omega arith; from = λ z. absurd (omega arith) }
 
 pub returns : goal.returns
 returns c = let i = c.loop-at.invariant in let b = i.behind in let t = c.loop-at-test.false in let ps : List Part = c.self.inside.pbufs.items in

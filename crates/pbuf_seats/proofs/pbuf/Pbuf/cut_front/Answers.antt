@@ -1,8 +1,8 @@
 use Rattle.std.proofs.Common.{ℕ, ◌≤◌, ◌∙◌, List, length, drop, ap, sym, arith}
-use Rattle.lw_pbuf.specs.Parts.{Part}
-use Rattle.lw_pbuf.specs.Bodies.{octets_of, is_own}
-use Rattle.lw_pbuf.proofs.Cutting.{drop-range, range_length}
-use Rattle.lw_pbuf.proofs.pbuf.Pbuf.cut_front.Goals as goal
+use Rattle.pbuf_seats.specs.Parts.{Part}
+use Rattle.pbuf_seats.specs.Bodies.{octets_of, is_own}
+use Rattle.pbuf_seats.proofs.Windows.{drop-range, range_length}
+use Rattle.pbuf_seats.proofs.pbuf.Pbuf.cut_front.Goals as goal
 
 pub returns : goal.returns
 returns c =

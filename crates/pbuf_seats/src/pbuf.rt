@@ -3,11 +3,8 @@ ghost use Rattle.std.specs.Prelude.{◌≡◌, ◌^◌, ◌<◌, ◌≤◌, ◌�
 ghost use Rattle.std.specs.Arc.{arc_value};
 ghost use Rattle.pbuf_seats.specs.Owners.{adds_of};
 
-use crate::NoMemory;
+use crate::owner::{Owner, Row};
 use lw_payload::Kind;
-use pbuf_seats::{Owner, Row};
-use std::alloc::Global;
-use std::default::MadeWith;
 use std::marker::Model;
 use std::mem;
 use std::sync::Arc;
@@ -29,50 +26,40 @@ pub enum Body {
 /// An owner of a pbuf, and the window of its octets that the chain has: those from `from` on and below `to`.
 #[derive(Drop)]
 pub struct Pbuf {
-    pub(crate) owner: Owner,
-    pub(crate) body: Body,
-    pub(crate) from: u32,
-    pub(crate) to: u32,
+    pub owner: Owner,
+    pub body: Body,
+    pub from: u32,
+    pub to: u32,
 }
 
 impl Model for Pbuf {
     ghost use Rattle.std.specs.Coded.{codes};
     ghost use Rattle.atomic_table.specs.Seated.{table_id_coded};
-    ghost use Rattle.lw_pbuf.specs.Parts.{Part};
+    ghost use Rattle.pbuf_seats.specs.Parts.{Part};
 
     ghost Value = { Part };
 
     ghost coded = { Prim.hlevel (codes, table_id_coded) };
 
     ghost use Rattle.std.specs.Prelude.{◌<◌, ◌≤◌, ◌^◌, length, slice_range};
-    ghost use Rattle.lw_pbuf.specs.Bodies.{octets_of, is_own};
+    ghost use Rattle.pbuf_seats.specs.Bodies.{octets_of, is_own};
 
     ghost view = { λ p. record { owner = p.owner; octets = slice_range (octets_of p.body) p.from p.to; own = is_own p.body } };
 
     ghost invariant = { λ p. (p.from ≤ p.to) × (p.to ≤ length (octets_of p.body)) };
 }
 
-/// What stands in the places of a list of pbufs that are not used.
-impl MadeWith<Global> for Pbuf {
-    fn made_with(alloc: Global) -> Pbuf {
-        Pbuf {
-            owner: NO_OWNER,
-            body: Body::Own(Vec::new(alloc)),
-            from: 0,
-            to: 0,
-        }
-    }
-}
-
 impl Pbuf {
-    /// An owner, with all octets of a body of its own.
-    pub(crate) fn whole(owner: Owner, body: Vec<u8>) -> Pbuf
+    /// All octets of a body of its own, with no owner yet.
+    #[inline]
+    pub fn whole(body: Vec<u8>) -> Pbuf
         requires short { length body.items < 2 ^ 32 }
-        ensures { result ≡ record { owner = owner; octets = body.items; own = true } }
+        ensures octets { result.octets ≡ body.items }
+        ensures own { result.own ≡ true }
     {
         let to = body.len() as u32;
         Pbuf {
-            owner,
+            owner: NO_OWNER,
             body: Body::Own(body),
             from: 0,
             to,
@@ -80,14 +67,16 @@ impl Pbuf {
     }
 
     /// How many octets of it the chain has.
-    pub(crate) fn len(&self) -> u32
+    #[inline]
+    pub fn len(&self) -> u32
         ensures { result ≡ length self.now.octets }
     {
         self.to - self.from
     }
 
     /// Those octets.
-    pub(crate) fn octets(&self) -> &[u8]
+    #[inline]
+    pub fn octets(&self) -> &[u8]
         ensures { result.now ≡ self.now.octets }
     {
         let body = match &self.body {
@@ -98,7 +87,8 @@ impl Pbuf {
     }
 
     /// Leaves the first octets out.
-    pub(crate) fn cut_front(&mut self, n: u32)
+    #[inline]
+    pub fn cut_front(&mut self, n: u32)
         requires { n ≤ length self.old.octets }
         ensures { self.new ≡ record self.old { octets = drop n self.old.octets } }
     {
@@ -106,7 +96,8 @@ impl Pbuf {
     }
 
     /// Keeps the first octets alone.
-    pub(crate) fn keep_front(&mut self, n: u32)
+    #[inline]
+    pub fn keep_front(&mut self, n: u32)
         requires { n ≤ length self.old.octets }
         ensures { self.new ≡ record self.old { octets = take n self.old.octets } }
     {
@@ -114,7 +105,7 @@ impl Pbuf {
     }
 
     /// Writes octets over all of these, which are in a body of the chain's own.
-    pub(crate) fn write(&mut self, octets: &[u8])
+    pub fn write(&mut self, octets: &[u8])
         requires own { self.old.own ≡ true }
         requires exact { length octets.now ≡ length self.old.octets }
         ensures { self.new ≡ record self.old { octets = octets.now } }
@@ -124,8 +115,17 @@ impl Pbuf {
         }
     }
 
+    /// Gives it this owner, and drops the old one.
+    #[inline]
+    pub fn set_owner(&mut self, owner: Owner)
+        ensures { self.new ≡ record self.old { owner = owner } }
+    {
+        self.owner = owner;
+    }
+
     /// How many owners its owner may still add.
-    pub(crate) fn adds(&self) -> u32
+    #[inline]
+    pub fn adds(&self) -> u32
         ensures { result ≡ adds_of self.now.owner }
     {
         match &self.owner {
@@ -135,14 +135,16 @@ impl Pbuf {
     }
 
     /// Whether its octets stand in a shared body.
-    pub(crate) fn is_shared(&self) -> bool
+    #[inline]
+    pub fn is_shared(&self) -> bool
         ensures { IsTrue result ↔ (self.now.own ≡ false) }
     {
         matches!(self.body, Body::Shared(_))
     }
 
     /// A window on a shared body, with no owner yet.
-    pub(crate) fn window(body: Arc<Vec<u8>>, from: u32, to: u32) -> Pbuf
+    #[inline]
+    pub fn window(body: Arc<Vec<u8>>, from: u32, to: u32) -> Pbuf
         requires { (from ≤ to) × (to ≤ length (arc_value body).items) }
         ensures octets { result.octets ≡ slice_range (arc_value body).items from to }
         ensures own { result.own ≡ false }
@@ -155,27 +157,9 @@ impl Pbuf {
         }
     }
 
-    /// The same window on its body, which is shared, with no owner yet.
-    pub(crate) fn copy(&self) -> Result<Pbuf, NoMemory>
-        ensures octets { IfOk result (λ p. p.octets ≡ self.now.octets) }
-        ensures own { IfOk result (λ p. p.own ≡ false) }
-    {
-        match &self.body {
-            Body::Own(_) => Err(NoMemory),
-            Body::Shared(body) => {
-                let body = Arc::try_clone(body)?;
-                Ok(Pbuf {
-                    owner: NO_OWNER,
-                    body: Body::Shared(body),
-                    from: self.from,
-                    to: self.to,
-                })
-            }
-        }
-    }
-
     /// Changes windows and bodies with another pbuf; the owners stay.
-    pub(crate) fn swap_octets(&mut self, other: &mut Pbuf)
+    #[inline]
+    pub fn swap_octets(&mut self, other: &mut Pbuf)
         ensures first { self.new ≡ record self.old { octets = other.old.octets; own = other.old.own } }
         ensures second { other.new ≡ record other.old { octets = self.old.octets; own = self.old.own } }
     {

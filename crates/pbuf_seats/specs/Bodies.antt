@@ -1,8 +1,8 @@
 -- The octets of a body.
 use Rattle.std.specs.Prelude.{ℕ, Bool, true, false, List}
 use Rattle.std.specs.Arc.{arc_value}
-use Rattle.lw_pbuf.specs.declared.pbuf.Body.{Body}
-use Rattle.lw_pbuf.specs.declared.pbuf.Body.TheVariants.{Own, Shared}
+use Rattle.pbuf_seats.specs.declared.pbuf.Body.{Body}
+use Rattle.pbuf_seats.specs.declared.pbuf.Body.TheVariants.{Own, Shared}
 
 -- all octets of a body, whether it is shared or not
 abbrev pub octets_of : Body → List ℕ
