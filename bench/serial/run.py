@@ -1,8 +1,9 @@
 #!/usr/bin/env python3
 """Runs `lwip serial` on captures of ARP requests, each from a sender of its own, of ICMP echo requests with 56 and
-1,472 octets of data, and of echo requests with 3,000 octets in three fragments each, and prints for each the seconds,
-the nanoseconds a frame, the ratio to the run of half as many frames, the peak memory in octets and its ratio to the
-octets of capture and transcript.
+1,472 octets of data, of echo requests with 3,000 octets in three fragments each, and of datagrams in fragments of
+eight octets that come in order, in reverse and in no order, and prints for each the seconds, the nanoseconds a frame,
+the ratio to the run of half as many frames, the peak memory in octets and its ratio to the octets of capture and
+transcript.
 
 Where the environment variable LWIP_BENCH names a program that feeds a capture to real lwIP and prints the words
 `ns_min N`, the nanoseconds a frame, it is run on the same captures, and the ratio to it is printed too.
@@ -11,6 +12,7 @@ usage: bench/serial/run.py [PROGRAM]      (crates/lwip/out/lwip, where none is n
 """
 import os
 import pathlib
+import random
 import struct
 import subprocess
 import sys
@@ -26,6 +28,8 @@ PEER_IP = bytes([10, 0, 0, 2])
 PEER_MAC = bytes([2, 0, 0, 0, 0, 2])
 # more fragments follow (RFC 791)
 MORE = 0x2000
+# so many datagrams come in small fragments
+DATAGRAMS = 4
 
 
 def arp_request(sender_ip, sender_mac):
@@ -55,9 +59,9 @@ def echo_message(octets):
     return message[:2] + struct.pack(">H", checksum(message)) + message[4:]
 
 
-def packet(data, identification, fragment=0):
-    """A frame from the peer with a packet of ICMP; `fragment` is the word of its flags and offset (RFC 791)."""
-    head = struct.pack(">BBHHHBBH", 0x45, 0, 20 + len(data), identification, fragment, 64, 1, 0) + PEER_IP + OWN_IP
+def packet(data, identification, fragment=0, protocol=1):
+    """A frame from the peer with a packet, of ICMP for protocol 1; `fragment` is the word of its flags and offset (RFC 791)."""
+    head = struct.pack(">BBHHHBBH", 0x45, 0, 20 + len(data), identification, fragment, 64, protocol, 0) + PEER_IP + OWN_IP
     head = head[:10] + struct.pack(">H", checksum(head)) + head[12:]
     return OWN_MAC + PEER_MAC + b"\x08\x00" + head + data
 
@@ -80,12 +84,51 @@ def echo_fragments(count):
         yield packet(message[2960:], number, 2960 // 8)
 
 
-# what is measured: a name, how the frames are made, and how many
+def in_order(count):
+    return range(count)
+
+
+def in_reverse(count):
+    return range(count - 1, -1, -1)
+
+
+def in_no_order(count):
+    places = list(range(count))
+    random.Random(1).shuffle(places)
+    return places
+
+
+def small_fragments(count, order):
+    """An ARP request of the peer, then datagrams of a protocol that nobody knows, in fragments of eight octets each."""
+    each = (count - 1) // DATAGRAMS
+    yield arp_request(PEER_IP, PEER_MAC)
+    for number in range(DATAGRAMS):
+        for place in order(each):
+            more = MORE if place + 1 < each else 0
+            yield packet(struct.pack(">Q", place), number, more | place, protocol=253)
+
+
+def answers(count):
+    """An answer to each frame."""
+    return count
+
+
+def small_answers(_):
+    """An answer to the ARP request, and one to each datagram."""
+    return 1 + DATAGRAMS
+
+
+SMALL = [1 + DATAGRAMS * 2_047, 1 + DATAGRAMS * 4_094, 1 + DATAGRAMS * 8_188]
+
+# what is measured: a name, how the frames are made, how many, and how many frames they bring
 KINDS = [
-    ("ARP requests", arp_requests, [25_000, 50_000, 100_000, 200_000]),
-    ("echo requests, 56 octets", lambda count: echo_requests(count, 56), [25_000, 50_000, 100_000]),
-    ("echo requests, 1,472 octets", lambda count: echo_requests(count, 1472), [2_500, 5_000, 10_000]),
-    ("fragments of echo requests, 3,000 octets", echo_fragments, [1 + 3 * 833, 1 + 3 * 1_666, 1 + 3 * 3_332]),
+    ("ARP requests", arp_requests, [25_000, 50_000, 100_000, 200_000], answers),
+    ("echo requests, 56 octets", lambda count: echo_requests(count, 56), [25_000, 50_000, 100_000], answers),
+    ("echo requests, 1,472 octets", lambda count: echo_requests(count, 1472), [2_500, 5_000, 10_000], answers),
+    ("fragments of echo requests, 3,000 octets", echo_fragments, [1 + 3 * 833, 1 + 3 * 1_666, 1 + 3 * 3_332], answers),
+    ("fragments of 8 octets, in order", lambda count: small_fragments(count, in_order), SMALL, small_answers),
+    ("fragments of 8 octets, in reverse", lambda count: small_fragments(count, in_reverse), SMALL, small_answers),
+    ("fragments of 8 octets, in no order", lambda count: small_fragments(count, in_no_order), SMALL, small_answers),
 ]
 
 
@@ -110,12 +153,12 @@ def run(program, folder):
     return seconds, used.ru_maxrss * 1024
 
 
-def check(path, count):
-    """Stops where the transcript's last line doesn't tell of one answer to each frame."""
+def check(path, count, out):
+    """Stops where the transcript's last line doesn't tell of so many frames that came and went out."""
     with open(path, "rb") as it:
         it.seek(-100, os.SEEK_END)
         last = it.read().splitlines()[-1].decode()
-    if not f"{last} ".startswith(f"end core {count + 1} out {count} "):
+    if not f"{last} ".startswith(f"end core {count + 1} out {out} "):
         sys.exit(f"the transcript of {count} frames ends with: {last}")
 
 
@@ -139,11 +182,11 @@ def main():
     with tempfile.TemporaryDirectory() as room:
         folder = pathlib.Path(room)
         (folder / "script").write_bytes(SCRIPT)
-        for name, frames, counts in KINDS:
-            measure(program, folder, name, frames, counts)
+        for name, frames, counts, brought in KINDS:
+            measure(program, folder, name, frames, counts, brought)
 
 
-def measure(program, folder, name, frames, counts):
+def measure(program, folder, name, frames, counts, brought):
     """Prints a line for each number of frames."""
     print(name)
     print(f"{'frames':>8} {'seconds':>9} {'ns/frame':>9} {'doubling':>9} {'peak':>12} {'peak/octets':>12} {'real ns':>9} {'ratio':>7}")
@@ -151,7 +194,7 @@ def measure(program, folder, name, frames, counts):
     for count in counts:
         write_capture(folder / "capture", frames(count))
         runs = [run(program, folder) for _ in range(TURNS)]
-        check(folder / "transcript", count)
+        check(folder / "transcript", count, brought(count))
         seconds, peak = min(s for s, _ in runs), max(p for _, p in runs)
         octets = (folder / "capture").stat().st_size + (folder / "transcript").stat().st_size
         ratio = f"{seconds / before:.2f}" if before else "-"

@@ -7,6 +7,7 @@
 #include "lwip/mem.h"
 #include "lwip/memp.h"
 #include "lwip/pbuf.h"
+#include "lwip/sys.h"
 
 static u8_t octets[1500];
 
@@ -14,6 +15,9 @@ int main(int count, char **words) {
   unsigned long chains = count > 1 ? strtoul(words[1], NULL, 10) : 1, ended = 0;
   struct timespec start, end;
   memset(octets, 0xa5, sizeof octets);
+#ifdef THREADS
+  sys_init();
+#endif
   mem_init();
   memp_init();
   clock_gettime(CLOCK_MONOTONIC, &start);
