@@ -1,149 +1,111 @@
--- Owners that are given up one after another.
-use Rattle.std.proofs.Common.{◌≡◌, ℕ, ◌+◌, ◌^◌, ◌<◌, ◌≤◌, Bool, List, [], ◌∷◌, ◌++◌, length, All, refl, sym, ap, ◌∙◌, subst, arith, length-append, append_assoc}
-use Rattle.std.proofs.lemmas.List.Sums.{sum_by-cons, sum_by_push}
-use Rattle.std.proofs.lemmas.List.Elements.{All-nil, All-cons, All-head, All-tail}
+-- Spans that are given up one after another.
+use Rattle.std.proofs.Common.{◌≡◌, ℕ, ◌+◌, ◌^◌, ◌<◌, ◌≤◌, List, [], ◌∷◌, ◌++◌, length, sym, ap, ◌∙◌, subst, arith, length-append}
 use Rattle.atomic_table.specs.Seated.{TableId}
-use Rattle.lw_payload.specs.declared.kinds.Kind.{Kind}
 use Rattle.lw_payload.specs.Views.{Slot}
-use Rattle.pbuf_counts.specs.Holders.{Known, owner_of}
-use Rattle.pbuf_seats.specs.declared.owner.Owner.{Owner}
-use Rattle.pbuf_seats.specs.declared.owner.Owner.TheVariants.{Kept, Counted}
-use Rattle.pbuf_seats.specs.Kept.{counts_of, rows_of}
-use Rattle.pbuf_seats.specs.Owners.{IsOwner, GaveUp, row_of, weight_of, slot_of, ended_at}
+use Rattle.pbuf_seats.specs.Kept.{rows_of}
+use Rattle.pbuf_seats.specs.Owners.{ended_at}
 use Rattle.pbuf_seats.specs.Seats.{SeatSeen}
-use Rattle.pbuf_seats.specs.Parts.{Part}
-use Rattle.lw_pbuf.specs.Chains.{joined, rows_in, weight_in, IsUnder, IsChain, ChainSeen, IsOf, IsSameSeat, IsSpent}
-use Rattle.lw_pbuf.specs.Takes.{GivesBack}
-use Rattle.lw_pbuf.proofs.Taken.{own_row}
+use Rattle.pbuf_spans.specs.Parts.{Part, rows_in, IsChain, IsSpent}
+use Rattle.lw_pbuf.specs.Chains.{ChainSeen, all_parts, IsOf}
+use Rattle.lw_pbuf.proofs.Joined.{few_parts}
+use Rattle.pbuf_spans.proofs.Owning.{same_seat, same_then}
+use Rattle.lw_pbuf.proofs.Spans.{rows_in-append, weight_in-append, all_parts-push, chain-front, chain-back}
 
--- One owner
+-- the rows that stand before others, and those others, are among the rows that the seat gave out
+pub listed-front : (h : SeatSeen) (xs ys : List Part) → ((s : Slot) → rows_in (xs ++ ys) s ≤ rows_of h.kept s) → (s : Slot) → rows_in xs s ≤ rows_of h.kept s
+listed-front h xs ys listed s = let l = listed s in let a = rows_in-append xs ys s in omega arith
 
-pub same_seat : (h k : SeatSeen) (o : Owner) (last : Bool) → GaveUp h o last k → ((j : Kind) → length (counts_of j k.kept) ≡ length (counts_of j h.kept)) → IsSameSeat h k
-same_seat h k (Kept r) last g sizes = let e = g.1 in record {
-  table = ap (λ (x : SeatSeen). x.holder.table) e;
-  right = ap (λ (x : SeatSeen). x.holder.rights) e;
-  sizes = sizes;
-  makes = ap (λ (x : SeatSeen). x.makes) e;
-  splits = ap (λ (x : SeatSeen). x.splits) e;
-  claimed = ap (λ (x : SeatSeen). x.claimed) e;
-}
-same_seat h k (Counted o) last g sizes = let e = g.1 in let t = g.0.3 in record {
-  table = ap (λ (x : Known). x.table) t;
-  right = ap (λ (x : Known). x.rights) t;
-  sizes = sizes;
-  makes = ap (λ (x : SeatSeen). x.makes) e;
-  splits = ap (λ (x : SeatSeen). x.splits) e;
-  claimed = ap (λ (x : SeatSeen). x.claimed) e;
+pub listed-back : (h : SeatSeen) (xs ys : List Part) → ((s : Slot) → rows_in (xs ++ ys) s ≤ rows_of h.kept s) → (s : Slot) → rows_in ys s ≤ rows_of h.kept s
+listed-back h xs ys listed s = let l = listed s in let a = rows_in-append xs ys s in omega arith
+
+-- pbufs that were given up, and others after them
+pub spent-then : (h k l : SeatSeen) (xs ys : List Part) → IsSpent h k xs → IsSpent k l ys → IsSpent h l (xs ++ ys)
+spent-then h k l xs ys a b = record {
+  rows = λ s. let r = a.rows s in let q = b.rows s in let e = rows_in-append xs ys s in omega arith;
+  weight = let r = a.weight in let q = b.weight in let e = weight_in-append xs ys in omega arith;
+  same = same_then h k l a.same b.same;
 }
 
-pub gives_back : (h k : SeatSeen) (o : Owner) (last : Bool) → GaveUp h o last k → GivesBack h.holder k.holder
-gives_back h k (Kept r) last g = record { later = []; finds = ap (λ (x : SeatSeen). x.holder.found) g.1; gets = ap (λ (x : SeatSeen). x.holder.got) g.1 }
-gives_back h k (Counted o) last g = record { later = (o.place, g.0.0) ∷ []; finds = ap (λ (x : Known). x.found) g.0.3; gets = ap (λ (x : Known). x.got) g.0.3 }
+-- a chain stays one under the counts of a seat that took pbufs back
+pub chain-later : (h k : SeatSeen) (xs ys : List Part) → IsSpent h k xs → IsChain h.holder.table ys → IsChain k.holder.table ys
+chain-later h k xs ys a chain = subst (λ (t : TableId). IsChain t ys) (sym a.same.table) chain
 
-pub spent_one : (h k : SeatSeen) (p : Part) → ((s : Slot) → rows_of k.kept s + row_of p.owner s ≡ rows_of h.kept s) → k.holder.weight ≡ h.holder.weight + weight_of p.owner → IsSameSeat h k → IsSpent h k (p ∷ [])
-spent_one h k p rows weight same = record {
-  rows = λ s. let r = rows s in let o = sum_by-cons (λ (q : Part). row_of q.owner s) p [] in omega arith;
-  weight = let o = sum_by-cons (λ (q : Part). weight_of q.owner) p [] in omega arith;
-  same = same;
+-- pbufs may be given up: they are under the seat's counts, and their rows are among those that it gave out
+pub record MayGive (h : SeatSeen) (ps : List Part) : Type 0 where
+  pub chain : IsChain h.holder.table ps
+  pub listed : (s : Slot) → rows_in ps s ≤ rows_of h.kept s
+
+pub give-front : (h : SeatSeen) (xs ys : List Part) → MayGive h (xs ++ ys) → MayGive h xs
+give-front h xs ys m = record { chain = chain-front h.holder.table xs ys m.chain; listed = listed-front h xs ys m.listed }
+
+pub give-back : (h : SeatSeen) (xs ys : List Part) → MayGive h (xs ++ ys) → MayGive h ys
+give-back h xs ys m = record { chain = chain-back h.holder.table xs ys m.chain; listed = listed-back h xs ys m.listed }
+
+pub give-few : (h : SeatSeen) (ps : List Part) → MayGive h ps → length ps < 2 ^ 32
+give-few h ps m = let f = few_parts ps m.chain.some in let s = m.chain.short in omega arith
+
+-- those that stood before the ones that were given up may still be
+pub give-then : (h k : SeatSeen) (xs ys : List Part) → MayGive h (xs ++ ys) → IsSpent h k ys → MayGive k xs
+give-then h k xs ys m spent = record {
+  chain = chain-later h k ys xs spent (chain-front h.holder.table xs ys m.chain);
+  listed = λ s. let l = m.listed s in let r = spent.rows s in let a = rows_in-append xs ys s in omega arith;
 }
 
--- an owner whose rows the seat gave out, and which is under its counts, may be given up to it
-may_give_up : (seat : SeatSeen) (t : TableId) (o : Owner) → IsUnder t o → t ≡ seat.holder.table → ((s : Slot) → row_of o s ≤ rows_of seat.kept s) → IsOwner seat o
-may_give_up seat t (Kept r) under same listed = let l = listed (slot_of r) in let e = own_row r.kind r.place in omega arith
-may_give_up seat t (Counted h) under same listed = subst (λ (u : TableId). h ≡ owner_of u h.place h.adds h.weight) same under
-
--- Those of a chain
-
-split_all : {X : Type 0} (P : X → Type 0) (xs : List X) (x : X) → All P (xs ++ x ∷ []) → All P xs × P x
-split_all P [] x a = (All-nil P, All-head P x [] a)
-split_all P (y ∷ ys) x a = let r = split_all P ys x (All-tail P y (ys ++ x ∷ []) a) in (All-cons P y ys (All-head P y (ys ++ x ∷ []) a) r.0, r.1)
-
-back_both : (h k l : Known) → GivesBack h k → GivesBack k l → GivesBack h l
-back_both h k l a b = record {
-  later = b.later ++ a.later;
-  finds = b.finds ∙ (ap (λ (x : List (ℕ × ℕ)). b.later ++ x) a.finds ∙ sym (append_assoc b.later a.later h.found));
-  gets = b.gets ∙ a.gets;
+-- and those that stood behind
+pub give-rest : (h k : SeatSeen) (xs ys : List Part) → MayGive h (xs ++ ys) → IsSpent h k xs → MayGive k ys
+give-rest h k xs ys m spent = record {
+  chain = chain-later h k xs ys spent (chain-back h.holder.table xs ys m.chain);
+  listed = λ s. let l = m.listed s in let r = spent.rows s in let a = rows_in-append xs ys s in omega arith;
 }
 
-same_both : (h k l : SeatSeen) → IsSameSeat h k → IsSameSeat k l → IsSameSeat h l
-same_both h k l a b = record {
-  table = b.table ∙ a.table;
-  right = b.right ∙ a.right;
-  sizes = λ j. b.sizes j ∙ a.sizes j;
-  makes = b.makes ∙ a.makes;
-  splits = b.splits ∙ a.splits;
-  claimed = b.claimed ∙ a.claimed;
-}
-
--- of a chain's parts, `rest` are still to be given up; the others were given up to the seat h, which is k now
-pub record Frees (h k : SeatSeen) (t : TableId) (parts rest : List Part) (ended : ℕ) : Type 0 where
-  pub all : All (λ p. IsUnder t p.owner) rest
-  pub home : t ≡ k.holder.table
-  pub rows : (s : Slot) → rows_of k.kept s + rows_in parts s ≡ rows_of h.kept s + rows_in rest s
-  pub listed : (s : Slot) → rows_in rest s ≤ rows_of k.kept s
-  pub weight : k.holder.weight + weight_in rest ≡ h.holder.weight + weight_in parts
-  pub same : IsSameSeat h k
-  pub back : GivesBack h.holder k.holder
-  pub few : ended + length rest < 2 ^ 32
+-- of the spans `all` those of `rest` are still to be given up; the pbufs of the others were given up to the seat h, which is k now
+pub record Frees (h k : SeatSeen) (all rest : List (List Part)) (ended : ℕ) : Type 0 where
+  pub may : MayGive k (all_parts rest)
+  pub spent : (l : SeatSeen) → IsSpent k l (all_parts rest) → IsSpent h l (all_parts all)
+  pub few : ended + length (all_parts rest) ≤ length (all_parts all)
   pub ends : ended_at k ≡ ended_at h + ended
+  pub most : length (all_parts all) < 2 ^ 32
 
-pub frees_first : (h : SeatSeen) (ps : List Part) → All (λ p. IsUnder h.holder.table p.owner) ps → ((s : Slot) → rows_in ps s ≤ rows_of h.kept s) → length ps < 2 ^ 32 → Frees h h h.holder.table ps ps 0
-frees_first h ps all listed few = record {
-  all = all;
-  home = refl;
-  rows = λ s. refl;
-  listed = listed;
-  weight = refl;
-  same = record { table = refl; right = refl; sizes = λ j. refl; makes = refl; splits = refl; claimed = refl };
-  back = record { later = []; finds = refl; gets = refl };
-  few = omega arith;
-  ends = omega arith;
-}
+pub frees_first : (h : SeatSeen) (spans : List (List Part)) → IsChain h.holder.table (all_parts spans) → ((s : Slot) → rows_in (all_parts spans) s ≤ rows_of h.kept s) → Frees h h spans spans 0
+frees_first h spans chain listed = record { may = record { chain = chain; listed = listed }; spent = λ l s. s; few = omega arith; ends = omega arith; most = let f = few_parts (all_parts spans) chain.some in let s = chain.short in omega arith }
 
-module _ (h k : SeatSeen) (t : TableId) (parts rest more : List Part) (p : Part) (ended : ℕ) (f : Frees h k t parts rest ended) (is : rest ≡ more ++ p ∷ []) where
-  last_rows : (s : Slot) → rows_in rest s ≡ rows_in more s + row_of p.owner s
-  last_rows s = ap (λ (l : List Part). rows_in l s) is ∙ sum_by_push (λ (q : Part). row_of q.owner s) more p
+module _ (h k : SeatSeen) (all rest more : List (List Part)) (ps : List Part) (ended : ℕ) (f : Frees h k all rest ended) (is : rest ≡ more ++ ps ∷ []) where
+  parts : all_parts rest ≡ all_parts more ++ ps
+  parts = ap (λ (l : List (List Part)). all_parts l) is ∙ all_parts-push more ps
 
-  all_here : All (λ q. IsUnder t q.owner) more × IsUnder t p.owner
-  all_here = split_all (λ (q : Part). IsUnder t q.owner) more p (subst (λ (l : List Part). All (λ q. IsUnder t q.owner) l) is f.all)
+  may : MayGive k (all_parts more ++ ps)
+  may = subst (λ (l : List Part). MayGive k l) parts f.may
 
-  pub frees_owner : IsOwner k p.owner
-  frees_owner = may_give_up k t p.owner all_here.1 f.home (λ s. let a = last_rows s in let l = f.listed s in omega arith)
+  pub frees_span : MayGive k ps
+  frees_span = give-back k (all_parts more) ps may
 
-  pub frees_next : (l : SeatSeen) (b : ℕ) → IsSpent k l (p ∷ []) → GivesBack k.holder l.holder → ended_at l ≡ ended_at k + b → b ≤ 1 → Frees h l t parts more (ended + b)
-  frees_next l b spent back end small = record {
-    all = all_here.0;
-    home = f.home ∙ sym spent.same.table;
-    rows = λ s. let a = last_rows s in let r = f.rows s in let q = spent.rows s in let o = sum_by-cons (λ (q : Part). row_of q.owner s) p [] in omega arith;
-    listed = λ s. let a = last_rows s in let l = f.listed s in let q = spent.rows s in let o = sum_by-cons (λ (q : Part). row_of q.owner s) p [] in omega arith;
-    weight = let a = ap (λ (l : List Part). weight_in l) is ∙ sum_by_push (λ (q : Part). weight_of q.owner) more p in let r = f.weight in let q = spent.weight in let o = sum_by-cons (λ (q : Part). weight_of q.owner) p [] in omega arith;
-    same = same_both h k l f.same spent.same;
-    back = back_both h.holder k.holder l.holder f.back back;
-    few = let l = ap (λ (l : List Part). length l) is in let n = length-append more (p ∷ []) in let w = f.few in omega arith;
+  pub frees_few : (n : ℕ) → n ≤ length ps → ended + n < 2 ^ 32
+  frees_few n small = let a = f.few in let m = f.most in let b = ap (λ (l : List Part). length l) parts in let d = length-append (all_parts more) ps in omega arith
+
+  pub frees_next : (l : SeatSeen) (n : ℕ) → IsSpent k l ps → ended_at l ≡ ended_at k + n → n ≤ length ps → Frees h l all more (ended + n)
+  frees_next l n spent end small = record {
+    may = give-then k l (all_parts more) ps may spent;
+    spent = λ m s. f.spent m (subst (λ (x : List Part). IsSpent k m x) (sym parts) record {
+      rows = λ t. let r = spent.rows t in let q = s.rows t in let e = rows_in-append (all_parts more) ps t in omega arith;
+      weight = let r = spent.weight in let q = s.weight in let e = weight_in-append (all_parts more) ps in omega arith;
+      same = same_then k l m spent.same s.same;
+    });
+    few = let a = f.few in let b = ap (λ (x : List Part). length x) parts in let d = length-append (all_parts more) ps in omega arith;
     ends = let e = f.ends in omega arith;
+    most = f.most;
   }
 
-pub frees_last : (h k : SeatSeen) (t : TableId) (parts rest : List Part) (ended : ℕ) → Frees h k t parts rest ended → length rest ≡ 0 → IsSpent h k parts
-frees_last h k t parts [] ended f none = record {
-  rows = λ s. let r = f.rows s in omega arith;
-  weight = let r = f.weight in omega arith;
-  same = f.same;
+-- nothing was given up
+pub spent-none : (h : SeatSeen) → IsSpent h h []
+spent-none h = record { rows = λ s. omega arith; weight = omega arith; same = same_seat h }
+
+pub frees_last : (h k : SeatSeen) (all rest : List (List Part)) (ended : ℕ) → Frees h k all rest ended → length rest ≡ 0 → IsSpent h k (all_parts all) × (ended ≤ length (all_parts all))
+frees_last h k all [] ended f none = (f.spent k (spent-none k), let a = f.few in omega arith)
+frees_last h k all (ps ∷ spans) ended f none = absurd (omega arith)
+
+-- a chain that may be given up to the seat
+pub of_chain : (h : SeatSeen) (t : TableId) (c : ChainSeen) (ps : List Part) → IsOf h c → ps ≡ c.parts → t ≡ c.table → IsChain t ps → MayGive h ps
+of_chain h t c ps of same under chain = record {
+  chain = subst (λ (u : TableId). IsChain u ps) (under ∙ of.table) chain;
+  listed = λ s. let e = ap (λ (l : List Part). rows_in l s) same in let l = of.listed s in omega arith;
 }
-frees_last h k t parts (p ∷ ps) ended f none = absurd (omega arith)
-
-parts_few : (ps : List Part) → All (λ p. 0 < length p.octets) ps → length ps ≤ length (joined ps)
-parts_few [] some = omega arith
-parts_few (p ∷ ps) some =
-    let here = All-head (λ (q : Part). 0 < length q.octets) p ps some in
-    let rest = parts_few ps (All-tail (λ (q : Part). 0 < length q.octets) p ps some) in
-    let a = length-append p.octets (joined ps) in
-    omega arith
-
--- the chain's owners may be given up one after another
-pub of_chain : (h : SeatSeen) (t : TableId) (c : ChainSeen) (ps : List Part) → IsOf h c → ps ≡ c.parts → t ≡ c.table → IsChain t ps
-    → All (λ p. IsUnder h.holder.table p.owner) ps × ((s : Slot) → rows_in ps s ≤ rows_of h.kept s) × (length ps < 2 ^ 32)
-of_chain h t c ps of same under chain = (
-  subst (λ (u : TableId). All (λ p. IsUnder u p.owner) ps) (under ∙ of.table) chain.under,
-  (λ s. let e = ap (λ (l : List Part). rows_in l s) same in let l = of.listed s in omega arith),
-  let few = parts_few ps chain.some in let short = chain.short in omega arith,
-)

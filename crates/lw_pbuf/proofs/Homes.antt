@@ -22,13 +22,14 @@ use Rattle.pbuf_seats.specs.declared.owner.Owner.TheVariants.{Kept, Counted}
 use Rattle.pbuf_seats.specs.Kept.{row_at, number_of}
 use Rattle.pbuf_seats.specs.Owners.{row_of, weight_of, adds_of, sharing, share_of}
 use Rattle.pbuf_seats.specs.Seats.{SeatSeen}
-use Rattle.pbuf_seats.specs.Parts.{Part}
-use Rattle.lw_pbuf.specs.Chains.{joined, rows_in, weight_in, least_adds, all_own, ChainSeen, IsOf, IsSpent, IsSameSeat}
-use Rattle.lw_pbuf.specs.Cuts.{IsCutTo}
-use Rattle.lw_pbuf.specs.Shares.{handed, first_of, second_of, IsSharedTo}
+use Rattle.pbuf_spans.specs.Parts.{Part, joined, rows_in, weight_in, least_adds, all_own, IsSpent, IsSameSeat}
+use Rattle.lw_pbuf.specs.Chains.{ChainSeen, IsOf}
+use Rattle.pbuf_spans.specs.Cuts.{IsCutTo}
+use Rattle.pbuf_spans.specs.Shares.{handed, first_of, second_of}
+use Rattle.lw_pbuf.specs.Shares.{IsSharedTo}
 use Rattle.lw_pbuf.specs.Homes.{family_of, pools_of, home_of, payload_of}
-use Rattle.lw_pbuf.proofs.Joined.{joined-append}
-use Rattle.lw_pbuf.proofs.Lists.{rows_in-cons, sum_by-map}
+use Rattle.pbuf_spans.proofs.Lists.{rows_in-cons, joined-append}
+use Rattle.pbuf_spans.proofs.Owning.{sum_by-map}
 
 -- equal families are of equal tables
 pub same_table : (t u : TableId) → family_of t ≡ family_of u → t ≡ u

@@ -14,8 +14,8 @@ use Rattle.pbuf_seats.specs.declared.makes.Makes.{Makes}
 use Rattle.pbuf_seats.specs.Kept.{counts_of, rows_of}
 use Rattle.pbuf_seats.specs.Owners.{adds_of}
 use Rattle.pbuf_seats.specs.Seats.{SeatSeen}
-use Rattle.pbuf_seats.specs.Parts.{Part}
-use Rattle.lw_pbuf.specs.Chains.{ChainSeen, rows_in, least_adds}
+use Rattle.pbuf_spans.specs.Parts.{Part, rows_in, least_adds}
+use Rattle.lw_pbuf.specs.Chains.{ChainSeen}
 use Rattle.lw_pbuf.specs.Takes.{is_counted, free_in}
 use Rattle.lw_pbuf.specs.Makes.{longest_of, claims_for, granted_of, denied_of, IsAlloc, IsDenied, KeepsSeat}
 use Rattle.lw_pbuf.specs.Homes.{family_of, of_kinds, weighs_in, pools_of, home_of, payload_of}

@@ -1,6 +1,10 @@
 mod Joined
-mod Lists
+mod Bodies
+mod Spans
+mod Counting
 mod Cutting
+mod SpanCuts
+mod Parting
 mod Rewriting
 mod Homes
 mod Sharing

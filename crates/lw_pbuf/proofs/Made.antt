@@ -1,10 +1,9 @@
 -- Chains that are made, or refused.
-use Rattle.std.proofs.Common.{◌≡◌, ℕ, ◌+◌, ◌*◌, ◌<◌, ◌≤◌, Bool, true, false, cond, List, ◌++◌, length, take, drop, refl, sym, ap, ◌∙◌, subst, arith, length-append, append-nil}
+use Rattle.std.proofs.Common.{◌≡◌, ℕ, ◌+◌, ◌*◌, ◌<◌, ◌≤◌, Bool, true, false, cond, List, ◌++◌, length, refl, sym, ap, ◌∙◌, arith, length-append}
 use Rattle.std.proofs.Common.{Result, Ok, Err}
 use Rattle.std.specs.Result.{IfErr}
 use Rattle.lw_pbuf.specs.declared.make.AllocFault.{AllocFault}
 use Rattle.lw_pbuf.specs.declared.make.AllocFault.TheVariants.{PoolEmpty, TooLong, NoMemory}
-use Rattle.std.proofs.lemmas.List.{take_all, drop_all}
 use Rattle.std.proofs.lemmas.List.Elements.{All-same}
 use Rattle.lw_payload.specs.declared.kinds.Kind.{Kind}
 use Rattle.lw_payload.specs.declared.kinds.Kind.TheVariants.{Ram, Pool, Rom, Ref}
@@ -14,12 +13,12 @@ use Rattle.pbuf_seats.specs.declared.makes.Makes.{Makes}
 use Rattle.pbuf_seats.specs.Kept.{counts_of, rows_of}
 use Rattle.pbuf_seats.specs.Owners.{adds_of}
 use Rattle.pbuf_seats.specs.Seats.{SeatSeen}
-use Rattle.pbuf_seats.specs.Parts.{Part}
-use Rattle.lw_pbuf.specs.Chains.{ChainSeen, joined, all_own, rows_in, weight_in, IsOf, IsSpent}
-use Rattle.lw_pbuf.specs.Takes.{contents, claims_in, is_counted, AreTaken, AllTried, GivesBack}
+use Rattle.pbuf_spans.specs.Parts.{Part, joined, all_own, rows_in, weight_in, IsSpent, GivesBack}
+use Rattle.lw_pbuf.specs.Chains.{ChainSeen, IsOf}
+use Rattle.lw_pbuf.specs.Takes.{claims_in, is_counted, AreTaken, AllTried}
 use Rattle.lw_pbuf.specs.Makes.{granted_of, denied_of, IsAlloc, IsDenied, KeepsSeat}
 use Rattle.lw_pbuf.proofs.Tried.{kept_full, counted_full}
-use Rattle.lw_pbuf.proofs.Taken.{counted_same, same_count}
+use Rattle.lw_pbuf.proofs.Taken.{counted_same}
 
 -- a chain that fits has few pbufs
 pub few_pbufs : (kind : Kind) (n : ℕ) → n ≤ 65535 → pbufs_of kind n ≤ 65535
@@ -32,17 +31,6 @@ few_pbufs Ref n fits = omega arith
 weighs_all : (h k : SeatSeen) (kind : Kind) (ps : List Part) (n : ℕ) (b : Bool) → AreTaken h k kind ps → length ps ≡ n → is_counted h kind ≡ b → (weight_in ps ≡ claim_weight * cond b n 0) × (claims_in ps ≡ cond b n 0)
 weighs_all h k kind ps n true a parts e = let q = a.counted e in (let w = q.1 in omega arith, let w = q.0 in omega arith)
 weighs_all h k kind ps n false a parts e = let q = a.kept e in (let w = q.1 in omega arith, q.0)
-
--- the list that the owners' loop leaves
-pub filled : (n : ℕ) (ps a qs : List Part) → a ≡ ps → length a ≡ n → contents qs ≡ contents a → take n (qs ++ drop (length qs) ps) ≡ qs
-filled n ps a qs is len same =
-    let m = ap (λ (l : List Part). length l) is in
-    let k = same_count a qs same in
-    ap (λ (l : List Part). take n (qs ++ l)) (drop_all (length qs) ps (omega arith)) ∙ (ap (take n) (append-nil qs) ∙ take_all n qs (omega arith))
-
--- where all got owners
-pub all_taken : (h k : SeatSeen) (kind : Kind) (qs : List Part) (n : ℕ) → AreTaken h k kind (take n qs) → length qs ≤ n → AreTaken h k kind qs
-all_taken h k kind qs n a all = subst (λ (l : List Part). AreTaken h k kind l) (take_all n qs all) a
 
 -- where the claims of a make are counted
 claimed_back : (h k l : SeatSeen) (kind : Kind) (ps : List Part) → AreTaken h k kind ps → (kind ≡ Pool → h.claimed ≡ 0) → (kind ≡ Pool → l.claimed ≡ 0) → ((kind ≡ Pool → ⊥) → l.claimed ≡ k.claimed) → l.claimed ≡ h.claimed

@@ -1,11 +1,10 @@
 -- Pbufs that are taken from a seat one after another.
-use Rattle.std.proofs.Common.{◌≡◌, ℕ, zero, suc, ◌+◌, ◌-◌, ◌<◌, ◌≤◌, min, Bool, true, false, cond, ◌&&◌, List, [], ◌∷◌, ◌++◌, length, set, take, get_or, All, Option, Some, None, refl, sym, ap, ◌∙◌, subst, arith, append_assoc, append-nil, length-append, eqb, eq-eqb, eqb-true}
+use Rattle.std.proofs.Common.{◌≡◌, ℕ, ◌+◌, ◌-◌, ◌<◌, ◌≤◌, min, Bool, true, false, cond, ◌&&◌, List, [], ◌∷◌, ◌++◌, length, take, drop, All, Option, Some, None, refl, sym, ap, ◌∙◌, subst, arith, length-append, eqb, eq-eqb, eqb-true}
 use Rattle.std.specs.Option.{IfSome, IsSome, IsNone}
 use Rattle.std.specs.Prelude.{◌↔◌}
 use Rattle.std.proofs.lemmas.Bool.{false≢true}
 use Rattle.std.proofs.lemmas.List.Sums.{sum_by_push}
-use Rattle.std.proofs.lemmas.List.{length-map, take_more_set}
-use Rattle.std.proofs.lemmas.List.Elements.{All-push, All-nil, All-cons, All-head, All-tail, All-map}
+use Rattle.std.proofs.lemmas.List.Elements.{All-push, All-nil, All-cons}
 use mathlib.Core.Logic.{dite}
 use native.Mathlib.Decide.{dec_le}
 use Rattle.atomic_table.specs.Seated.{TableId}
@@ -19,48 +18,32 @@ use Rattle.pbuf_seats.specs.declared.owner.Owner.TheVariants.{Kept, Counted}
 use Rattle.pbuf_seats.specs.Owners.{row_of, weight_of, adds_of}
 use Rattle.pbuf_seats.specs.Kept.{counts_of, rows_of, row_at, number_of, is_at}
 use Rattle.pbuf_seats.specs.Seats.{SeatSeen, IsInUse}
-use Rattle.pbuf_seats.specs.Parts.{Part}
-use Rattle.lw_pbuf.specs.Chains.{joined, all_own, rows_in, weight_in, IsUnder}
-use Rattle.lw_pbuf.specs.Takes.{contents, claim_of, claims_in, is_counted, places_of, free_in, Gives, GivesNone, IsTaken, AreTaken, IsTried, AreTried, AllTried}
-use Rattle.lw_pbuf.specs.Makes.{body_of, longest_of}
+use Rattle.pbuf_seats.specs.declared.pbuf.Pbuf.{Pbuf}
+use Rattle.pbuf_spans.specs.Parts.{Part, rows_in, weight_in, IsUnder}
+use Rattle.pbuf_spans.specs.Spans.{lens, parts_of}
+use Rattle.lw_pbuf.specs.Takes.{claim_of, claims_in, is_counted, places_of, free_in, Gives, GivesNone, IsTaken, AreTaken, IsTried, AreTried, AllTried}
+use Rattle.lw_pbuf.specs.Makes.{body_of}
+use Rattle.pbuf_spans.proofs.Spans.{parts_of-append}
 use Rattle.lw_pbuf.proofs.Tried.{times-here, missed-here, claims_none, on_true, on_false, tried_none, tried_both, tried_all}
 
--- Chains to be
-
-joined-push : (ps : List Part) (p : Part) → joined (ps ++ p ∷ []) ≡ joined ps ++ p.octets
-joined-push [] p = append-nil p.octets
-joined-push (x ∷ ps) p = ap (λ (l : List ℕ). x.octets ++ l) (joined-push ps p) ∙ sym (append_assoc x.octets (joined ps) p.octets)
+-- Lengths
 
 length-push : (ps : List Part) (p : Part) → length (ps ++ p ∷ []) ≡ length ps + 1
 length-push ps p = length-append ps (p ∷ [])
 
-own_both : (x y z : Bool) → x && y ≡ true → (y ≡ true → z ≡ true) → x && z ≡ true
-own_both true y z e f = f e
-own_both false y z e f = absurd (false≢true e)
-
-own-push : (ps : List Part) (p : Part) → all_own ps ≡ true → p.own ≡ true → all_own (ps ++ p ∷ []) ≡ true
-own-push [] p a b = rw b refl
-own-push (x ∷ ps) p a b = own_both x.own (all_own ps) (all_own (ps ++ p ∷ [])) a (λ e. own-push ps p e b)
-
--- one body more
-pub bodies_more : (ps new : List Part) (p : Part) (front back rest octets : List ℕ) → new ≡ ps ++ p ∷ [] → p.octets ≡ front → front ++ back ≡ rest → joined ps ++ rest ≡ octets → joined new ++ back ≡ octets
-bodies_more ps new p front back rest octets is here cut so_far =
-    ap (λ (l : List Part). joined l ++ back) is ∙ (ap (λ (l : List ℕ). l ++ back) (joined-push ps p) ∙ (append_assoc (joined ps) p.octets back ∙ (ap (λ (l : List ℕ). joined ps ++ (l ++ back)) here ∙ (ap (λ (l : List ℕ). joined ps ++ l) cut ∙ so_far))))
-
-pub own_more : (ps new : List Part) (p : Part) → new ≡ ps ++ p ∷ [] → p.own ≡ true → all_own ps ≡ true → all_own new ≡ true
-own_more ps new p is own so_far = ap all_own is ∙ own-push ps p so_far own
-
--- no octets are left
-pub bodies_last : (ps : List Part) (rest octets : List ℕ) → joined ps ++ rest ≡ octets → length rest ≡ 0 → joined ps ≡ octets
-bodies_last ps [] octets so_far none = sym (append-nil (joined ps)) ∙ so_far
-bodies_last ps (x ∷ xs) octets so_far none = absurd (omega arith)
-
 -- the octets behind a body take one pbuf less
-pub one_body : (kind : Kind) (n m : ℕ) → 0 < n → n ≤ longest_of kind → m ≡ n - min n (body_of kind) → pbufs_of kind n ≡ 1 + pbufs_of kind m
+one_body : (kind : Kind) (n m : ℕ) → 0 < n → n ≤ 65535 → m ≡ n - min n (body_of kind) → pbufs_of kind n ≡ 1 + pbufs_of kind m
 one_body Ram n m some fits is = omega arith
 one_body Pool n m some fits is = omega arith
 one_body Rom n m some fits is = omega arith
 one_body Ref n m some fits is = omega arith
+
+-- a body has some of them
+some_octets : (kind : Kind) (n : ℕ) → 0 < n → 0 < min n (body_of kind)
+some_octets Ram n some = omega arith
+some_octets Pool n some = omega arith
+some_octets Rom n some = omega arith
+some_octets Ref n some = omega arith
 
 -- Kinds of counts
 
@@ -303,77 +286,55 @@ taken_first h kind = record {
   counted = λ _. (refl, omega arith);
 }
 
--- What the parts are beside their owners
+-- Pbufs with owners
 
-contents-set : (qs : List Part) (i : ℕ) (p q : Part) → i < length qs → p ≡ get_or qs i p → q.octets ≡ p.octets → q.own ≡ p.own → contents (set qs i q) ≡ contents qs
-contents-set [] i p q inside is octets own = absurd (omega arith)
-contents-set (x ∷ xs) zero p q inside is octets own = λ j. ((octets ∙ ap (λ (y : Part). y.octets) is) j, (own ∙ ap (λ (y : Part). y.own) is) j) ∷ contents xs
-contents-set (x ∷ xs) (suc i) p q inside is octets own = ap (λ (l : List (List ℕ × Bool)). (x.octets, x.own) ∷ l) (contents-set xs i p q (omega arith) is octets own)
-
-octets_in : List (List ℕ × Bool) → List ℕ
-octets_in [] = []
-octets_in (x ∷ xs) = x.0 ++ octets_in xs
-
-own_in : List (List ℕ × Bool) → Bool
-own_in [] = true
-own_in (x ∷ xs) = x.1 && own_in xs
-
-joined_in : (ps : List Part) → joined ps ≡ octets_in (contents ps)
-unfolding octets_in
-joined_in [] = refl
-joined_in (p ∷ ps) = ap (λ (l : List ℕ). p.octets ++ l) (joined_in ps)
-
-all_own_in : (ps : List Part) → all_own ps ≡ own_in (contents ps)
-unfolding own_in
-all_own_in [] = refl
-all_own_in (p ∷ ps) = ap (λ (b : Bool). p.own && b) (all_own_in ps)
-
-some_in : (ps : List Part) → All (λ p. 0 < length p.octets) ps → All (λ x. 0 < length x.0) (contents ps)
-some_in ps some = All-map (λ (x : List ℕ × Bool). 0 < length x.0) (λ (p : Part). (p.octets, p.own)) ps some
-
-some_out : (ps : List Part) → All (λ x. 0 < length x.0) (contents ps) → All (λ p. 0 < length p.octets) ps
-some_out [] some = All-nil (λ (p : Part). 0 < length p.octets)
-some_out (p ∷ ps) some =
-    All-cons (λ (q : Part). 0 < length q.octets) p ps (All-head (λ (x : List ℕ × Bool). 0 < length x.0) (p.octets, p.own) (contents ps) some)
-    (some_out ps (All-tail (λ (x : List ℕ × Bool). 0 < length x.0) (p.octets, p.own) (contents ps) some))
-
--- parts that differ in their owners alone
-module _ (ps qs : List Part) (same : contents qs ≡ contents ps) where
-  pub same_joined : joined qs ≡ joined ps
-  same_joined = joined_in qs ∙ (ap octets_in same ∙ sym (joined_in ps))
-
-  pub same_own : all_own qs ≡ all_own ps
-  same_own = all_own_in qs ∙ (ap own_in same ∙ sym (all_own_in ps))
-
-  pub same_some : All (λ p. 0 < length p.octets) ps → All (λ p. 0 < length p.octets) qs
-  same_some some = some_out qs (subst (λ (l : List (List ℕ × Bool)). All (λ x. 0 < length x.0) l) (sym same) (some_in ps some))
-
-  pub same_count : length qs ≡ length ps
-  same_count = sym (length-map qs (λ (p : Part). (p.octets, p.own))) ∙ (ap (λ (l : List (List ℕ × Bool)). length l) same ∙ length-map ps (λ (p : Part). (p.octets, p.own)))
-
--- of the pbufs ps, which are qs now, those below i got owners from the seat h, which is k now, at the turns below `turn`
-pub record Fills (h k : SeatSeen) (kind : Kind) (ps qs : List Part) (i places from turn : ℕ) : Type 0 where
-  pub taken : AreTaken h k kind (take i qs)
+-- owners of pbufs for the front of the text came from the seat h, which is k now, at the turns below `turn`; so many of its octets are left
+pub record Fills (h k : SeatSeen) (kind : Kind) (text : List ℕ) (ps : List Pbuf) (left places from turn : ℕ) : Type 0 where
+  pub taken : AreTaken h k kind (parts_of true text ps)
   pub tried : AreTried h k kind places from turn
-  pub same : contents qs ≡ contents ps
+  pub some : All (λ p. 0 < p.len) ps
+  pub sum : lens ps + left ≡ length text
+  pub few : length ps + pbufs_of kind left ≡ pbufs_of kind (length text)
 
-pub fills_first : (h : SeatSeen) (kind : Kind) (ps : List Part) (places from : ℕ) → Fills h h kind ps ps 0 places from from
-fills_first h kind ps places from = record { taken = taken_first h kind; tried = tried_none h h kind places from refl; same = refl }
-
--- an owner was taken for the next pbuf
-pub fills_next : (h k l : SeatSeen) (kind : Kind) (ps qs rs : List Part) (i : ℕ) (p q : Part) (places from turn turn' : ℕ) → Fills h k kind ps qs i places from turn → i < length qs → p ≡ get_or qs i p → IsTaken k l kind q.owner
-    → AreTried k l kind places turn turn' → q.octets ≡ p.octets → q.own ≡ p.own → rs ≡ set qs i q → Fills h l kind ps rs (i + 1) places from turn'
-fills_next h k l kind ps qs rs i p q places from turn turn' f inside is t tried octets own after = subst (λ (x : List Part). Fills h l kind ps x (i + 1) places from turn') (sym after) record {
-  taken = subst (λ (x : List Part). AreTaken h l kind x) (sym (take_more_set qs i q inside)) (taken_more h k l kind (take i qs) q f.taken t);
-  tried = tried_both h k l kind places from turn turn' f.tried tried (counted_same k l kind t.gives.sizes) (gives_grows k l _ _ _ t.gives);
-  same = contents-set qs i p q inside is octets own ∙ f.same;
+pub fills_first : (h : SeatSeen) (kind : Kind) (text : List ℕ) (ps : List Pbuf) (places from : ℕ) → ps ≡ [] → Fills h h kind text ps (length text) places from from
+fills_first h kind text ps places from none = subst (λ (l : List Pbuf). Fills h h kind text l (length text) places from from) (sym none) record {
+  taken = taken_first h kind;
+  tried = tried_none h h kind places from refl;
+  some = All-nil (λ (p : Pbuf). 0 < p.len);
+  sum = omega arith;
+  few = omega arith;
 }
 
+-- an owner was taken for the next pbuf
+pub fills_next : (h k l : SeatSeen) (kind : Kind) (text : List ℕ) (ps qs : List Pbuf) (p : Pbuf) (left rest places from turn turn' : ℕ) → Fills h k kind text ps left places from turn → length text ≤ 65535 → 0 < left → p.len ≡ min left (body_of kind)
+    → IsTaken k l kind p.owner → AreTried k l kind places turn turn' → qs ≡ ps ++ p ∷ [] → rest ≡ left - p.len → Fills h l kind text qs rest places from turn'
+fills_next h k l kind text ps qs p left rest places from turn turn' f short more len t tried now after =
+    let sum = f.sum in
+    let few = f.few in
+    let one = one_body kind left rest more (omega arith) (omega arith) in
+    let some = some_octets kind left more in
+    let longer = length-append ps (p ∷ []) in
+    let wider = sum_by_push (λ (q : Pbuf). q.len) ps p in
+    subst (λ (x : List Pbuf). Fills h l kind text x rest places from turn') (sym now) record {
+      taken = subst (λ (x : List Part). AreTaken h l kind x) (sym (parts_of-append true text ps (p ∷ []))) (taken_more h k l kind (parts_of true text ps) (record { owner = p.owner; octets = take p.len (drop (lens ps) text); own = true }) f.taken t);
+      tried = tried_both h k l kind places from turn turn' f.tried tried (counted_same k l kind t.gives.sizes) (gives_grows k l _ _ _ t.gives);
+      some = All-push (λ (q : Pbuf). 0 < q.len) ps p f.some (omega arith);
+      sum = omega arith;
+      few = omega arith;
+    }
+
 -- no pbuf was left for the next one: all places were tried
-pub fills_short : (h k l : SeatSeen) (kind : Kind) (ps qs : List Part) (i places from turn end : ℕ) → Fills h k kind ps qs i places from turn → GivesNone k l → AreTried k l kind places turn end
+pub fills_short : (h k l : SeatSeen) (kind : Kind) (text : List ℕ) (ps : List Pbuf) (left places from turn end : ℕ) → Fills h k kind text ps left places from turn → GivesNone k l → AreTried k l kind places turn end
     → places ≡ places_of h kind → from ≤ places → end ≡ from + places → AllTried h l kind
-fills_short h k l kind ps qs i places from turn end f none tried is below all =
+fills_short h k l kind text ps left places from turn end f none tried is below all =
     tried_all h l kind places from end (tried_both h k l kind places from turn end f.tried tried (counted_same k l kind none.gives.sizes) (gives_grows k l (λ _. 0) 0 0 none.gives)) is below all
+
+-- octets take a pbuf
+pub some_pbufs : (kind : Kind) (n : ℕ) → 0 < n → 0 < pbufs_of kind n
+some_pbufs Ram n some = omega arith
+some_pbufs Pool n some = omega arith
+some_pbufs Rom n some = omega arith
+some_pbufs Ref n some = omega arith
 
 few_claims : (h k : SeatSeen) (kind : Kind) (ps : List Part) (b : Bool) → AreTaken h k kind ps → is_counted h kind ≡ b → claims_in ps ≡ cond b (length ps) 0
 few_claims h k kind ps true a e = (a.counted e).0

@@ -7,7 +7,8 @@ use Rattle.lw_payload.specs.Views.{View, HomeView, Pools, pbufs_of}
 use Rattle.pbuf_counts.specs.Owners.{claim_weight}
 use Rattle.pbuf_seats.specs.Kept.{rows_of}
 use Rattle.pbuf_seats.specs.Seats.{SeatSeen}
-use Rattle.lw_pbuf.specs.Chains.{ChainSeen, joined, rows_in, weight_in, least_adds, all_own}
+use Rattle.pbuf_spans.specs.Parts.{joined, rows_in, weight_in, least_adds, all_own}
+use Rattle.lw_pbuf.specs.Chains.{ChainSeen}
 use Rattle.lw_pbuf.specs.Makes.{longest_of}
 
 -- the numbers of a table: no two tables have the same

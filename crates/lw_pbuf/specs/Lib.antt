@@ -1,5 +1,4 @@
 pub mod Chains
-pub mod Cuts
 pub mod Shares
 pub mod Takes
 pub mod Makes

@@ -9,7 +9,8 @@ use Rattle.pbuf_seats.specs.declared.makes.Makes.{Makes}
 use Rattle.pbuf_seats.specs.Kept.{counts_of, rows_of}
 use Rattle.pbuf_seats.specs.Owners.{adds_of}
 use Rattle.pbuf_seats.specs.Seats.{SeatSeen}
-use Rattle.lw_pbuf.specs.Chains.{ChainSeen, joined, rows_in, weight_in, all_own}
+use Rattle.pbuf_spans.specs.Parts.{joined, rows_in, weight_in, all_own}
+use Rattle.lw_pbuf.specs.Chains.{ChainSeen}
 use Rattle.lw_pbuf.specs.Takes.{is_counted, free_in, missed}
 
 -- so many octets a chain of the kind has at most

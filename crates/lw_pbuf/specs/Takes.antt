@@ -1,5 +1,5 @@
 -- How pbufs are taken from a seat and given back to it.
-use Rattle.std.specs.Prelude.{◌≡◌, ℕ, ◌+◌, ◌*◌, ◌<◌, ◌≤◌, ◌==◌, Bool, true, false, if◌then◌else◌, List, ◌++◌, length, map, sum_by, count_by, All}
+use Rattle.std.specs.Prelude.{◌≡◌, ℕ, ◌+◌, ◌*◌, ◌<◌, ◌≤◌, ◌==◌, Bool, true, false, if◌then◌else◌, List, ◌++◌, length, sum_by, count_by, All}
 use Rattle.lw_payload.specs.declared.kinds.Kind.{Kind}
 use Rattle.lw_payload.specs.declared.kinds.Kind.TheVariants.{Ram, Pool, Rom, Ref}
 use Rattle.lw_payload.specs.Views.{Slot}
@@ -10,12 +10,7 @@ use Rattle.pbuf_seats.specs.declared.owner.Owner.TheVariants.{Kept, Counted}
 use Rattle.pbuf_seats.specs.Kept.{counts_of, rows_of, free_count}
 use Rattle.pbuf_seats.specs.Owners.{row_of, weight_of, adds_of}
 use Rattle.pbuf_seats.specs.Seats.{SeatSeen}
-use Rattle.pbuf_seats.specs.Parts.{Part}
-use Rattle.lw_pbuf.specs.Chains.{rows_in, weight_in, IsUnder}
-
--- what the parts are beside their owners: their octets, and whether these are in bodies of the chain's own
-abbrev pub contents : List Part → List (List ℕ × Bool)
-contents ps = map (λ p. (p.octets, p.own)) ps
+use Rattle.pbuf_spans.specs.Parts.{Part, rows_in, weight_in, IsUnder}
 
 -- 1 for an owner that a claim made
 abbrev pub claim_of : Owner → ℕ
@@ -104,12 +99,6 @@ pub record AreTried (h k : SeatSeen) (kind : Kind) (places from to : ℕ) : Type
   pub claims : Claims h.holder k.holder got misses
   pub first : (place : ℕ) → from ≤ place → place < to → place < places → 0 < use_at k kind got misses place
   pub again : (place : ℕ) → from ≤ place + places → place + places < to → 0 < use_at k kind got misses place
-
--- a holder h, which is k then, gave owners up: it found counts as it did so, and claimed nothing
-pub record GivesBack (h k : Known) : Type 0 where
-  pub later : List (ℕ × ℕ)
-  pub finds : k.found ≡ later ++ h.found
-  pub gets : k.got ≡ h.got
 
 -- every place of the kind was tried between the seats h and k
 pub record AllTried (h k : SeatSeen) (kind : Kind) : Type 0 where

@@ -82,3 +82,19 @@ fn a_fresh_chain_is_filled_again(rt: HostRuntime) -> Result<(), Fail> {
     assert!(rt; seat.free().pool == 8);
     Ok(())
 }
+
+#[test]
+fn a_cut_goes_from_one_make_to_the_next(rt: HostRuntime) -> Result<(), Fail> {
+    let mut seat = PoolSeat::new(rt.alloc(), &SMALL, true)?;
+    let mut chain = pbuf_alloc(rt.alloc(), &mut seat, Kind::Ram, b"oct")?;
+    let tail = pbuf_alloc(rt.alloc(), &mut seat, Kind::Ram, b"ets")?;
+    chain.room(1)?;
+    chain.cat(tail);
+    chain.header(&mut seat, 4);
+    let mut out = [0u8; 2];
+    chain.copy_at(0, &mut out);
+    assert!(rt; out[0] == b't');
+    assert!(rt; out[1] == b's');
+    assert!(rt; pbuf_free(chain, &mut seat) == 1);
+    Ok(())
+}

@@ -1,9 +1,10 @@
 //! Copies of a chain's octets.
 ghost use Rattle.std.specs.Prelude.{◌≡◌, ◌+◌, ◌≤◌, ◌++◌, length, take, drop, slice_range};
-ghost use Rattle.lw_pbuf.specs.Chains.{joined};
+ghost use Rattle.pbuf_spans.specs.Parts.{joined};
+ghost use Rattle.lw_pbuf.specs.Chains.{all_parts};
 
 use crate::chain::Chain;
-use pbuf_seats::Pbuf;
+use pbuf_spans::Span;
 
 impl Chain {
     /// Copies the octets from `from` on until `out` is full.
@@ -11,19 +12,25 @@ impl Chain {
         requires within { from + length out.old ≤ length (joined self.now.parts) }
         ensures { out.new ≡ slice_range (joined self.now.parts) from (from + length out.old) }
     {
-        copy_out(self.pbufs.as_slice(), from as usize, out);
+        let octets = self.first.octets();
+        let skip = from as usize;
+        let begin = skip.min(octets.len());
+        let count = (octets.len() - begin).min(out.len());
+        let (front, back) = out.split_at_mut(count);
+        front.copy_from_slice(&octets[begin..begin + count]);
+        copy_out(self.rest.as_slice(), skip - begin, back);
     }
 }
 
-// The same over the pbufs.
-fn copy_out(pbufs: &[Pbuf], from: usize, out: &mut [u8])
-    requires within { from + length out.old ≤ length (joined pbufs.now) }
-    ensures { out.new ≡ slice_range (joined pbufs.now) from (from + length out.old) }
+// The same over spans.
+fn copy_out(spans: &[Span], from: usize, out: &mut [u8])
+    requires within { from + length out.old ≤ length (joined (all_parts spans.now)) }
+    ensures { out.new ≡ slice_range (joined (all_parts spans.now)) from (from + length out.old) }
 {
     let mut skip = from;
     let mut at = 0;
-    for pbuf in pbufs {
-        let octets = pbuf.octets();
+    for span in spans {
+        let octets = span.octets();
         let begin = skip.min(octets.len());
         let count = (octets.len() - begin).min(out.len() - at);
         write_at(out, at, &octets[begin..begin + count]);

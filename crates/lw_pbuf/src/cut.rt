@@ -2,15 +2,17 @@
 ghost use Rattle.std.specs.Prelude.{◌≡◌, ◌+◌, ◌-◌, ◌<◌, ◌≤◌, ◌++◌, length, drop, take, true, vec_capacity};
 ghost use Rattle.lw_payload.specs.Views.{Slot};
 ghost use Rattle.pbuf_seats.specs.Kept.{rows_of};
-ghost use Rattle.lw_pbuf.specs.Chains.{joined, rows_in, all_own, IsChain, IsOf};
-ghost use Rattle.lw_pbuf.specs.Cuts.{IsCutTo, IsRewritten};
+ghost use Rattle.pbuf_spans.specs.Parts.{joined, rows_in, all_own, IsChain};
+ghost use Rattle.pbuf_spans.specs.Cuts.{IsCutTo, IsRewritten};
+ghost use Rattle.lw_pbuf.specs.Chains.{all_parts, NoneEmpty, IsOf};
 
 use crate::chain::Chain;
-use crate::free::give_up;
-use pbuf_seats::{Pbuf, PoolSeat};
+use pbuf_seats::PoolSeat;
+use pbuf_spans::Span;
 
 impl Chain {
     /// Cuts the first n octets off. A pbuf of which no octet is left is given up. It takes no memory.
+    #[inline(always)]
     pub fn cut_front(&mut self, seat: &mut PoolSeat, n: u32)
         requires of_seat { IsOf seat.old self.old }
         requires within { n ≤ length (joined self.old.parts) }
@@ -20,7 +22,9 @@ impl Chain {
         ensures few { length self.new.parts ≤ length (joined self.new.parts) }
         ensures of_seat { IsOf seat.new self.new }
     {
-        front_off(&mut self.pbufs, seat, n);
+        let in_first = n.min(self.first.len());
+        self.first.cut_front(seat, in_first);
+        front_off(&mut self.rest, seat, n - in_first);
     }
 
     /// Cuts the last n octets off, likewise.
@@ -33,7 +37,8 @@ impl Chain {
         ensures few { length self.new.parts ≤ length (joined self.new.parts) }
         ensures of_seat { IsOf seat.new self.new }
     {
-        back_off(&mut self.pbufs, seat, n);
+        let left = back_off(&mut self.rest, seat, n);
+        self.first.cut_back(seat, left);
     }
 
     /// Leaves a header of so many octets out, so that the chain begins with what is behind it.
@@ -61,106 +66,123 @@ impl Chain {
         ensures few { length self.new.parts ≤ length (joined self.new.parts) }
         ensures of_seat { IsOf seat.new self.new }
     {
-        let surplus = self.tot_len(0) - octets.len() as u32;
+        let surplus = self.len() - octets.len() as u32;
         self.cut_back(seat, surplus);
-        write_over(self.pbufs.as_mut_slice(), octets);
+        let (front, back) = octets.split_at(self.first.len() as usize);
+        self.first.write(front);
+        write_over(self.rest.as_mut_slice(), back);
     }
 }
 
-// Cuts the first n octets off.
-fn front_off(pbufs: &mut Vec<Pbuf>, seat: &mut PoolSeat, n: u32)
-    requires within { n ≤ length (joined pbufs.old.items) }
-    requires chain { IsChain seat.old.holder.table pbufs.old.items }
-    requires listed { (s : Slot) → rows_in pbufs.old.items s ≤ rows_of seat.old.kept s }
-    ensures octets { joined pbufs.new.items ≡ drop n (joined pbufs.old.items) }
-    ensures chain { IsChain seat.new.holder.table pbufs.new.items }
-    ensures listed { (s : Slot) → rows_in pbufs.new.items s ≤ rows_of seat.new.kept s }
-    ensures cut { IsCutTo seat.old seat.new pbufs.old.items pbufs.new.items }
-    ensures capacity { vec_capacity pbufs.new ≡ vec_capacity pbufs.old }
+// Cuts the first n octets off. Spans of which nothing is left go.
+fn front_off(spans: &mut Vec<Span>, seat: &mut PoolSeat, n: u32)
+    requires within { n ≤ length (joined (all_parts spans.old.items)) }
+    requires chain { IsChain seat.old.holder.table (all_parts spans.old.items) }
+    requires full { NoneEmpty spans.old.items }
+    requires listed { (s : Slot) → rows_in (all_parts spans.old.items) s ≤ rows_of seat.old.kept s }
+    ensures octets { joined (all_parts spans.new.items) ≡ drop n (joined (all_parts spans.old.items)) }
+    ensures chain { IsChain seat.new.holder.table (all_parts spans.new.items) }
+    ensures full { NoneEmpty spans.new.items }
+    ensures listed { (s : Slot) → rows_in (all_parts spans.new.items) s ≤ rows_of seat.new.kept s }
+    ensures cut { IsCutTo seat.old seat.new (all_parts spans.old.items) (all_parts spans.new.items) }
+    ensures capacity { vec_capacity spans.new ≡ vec_capacity spans.old }
+    ensures fewer { length spans.new.items ≤ length spans.old.items }
 {
     let mut left = n;
     while left > 0 {
-        left = cut_first(pbufs, seat, left);
+        left = cut_first(spans, seat, left);
     }
 }
 
-// Cuts the last n octets off.
-fn back_off(pbufs: &mut Vec<Pbuf>, seat: &mut PoolSeat, n: u32)
-    requires within { n ≤ length (joined pbufs.old.items) }
-    requires chain { IsChain seat.old.holder.table pbufs.old.items }
-    requires listed { (s : Slot) → rows_in pbufs.old.items s ≤ rows_of seat.old.kept s }
-    ensures octets { joined pbufs.new.items ≡ take (length (joined pbufs.old.items) - n) (joined pbufs.old.items) }
-    ensures chain { IsChain seat.new.holder.table pbufs.new.items }
-    ensures listed { (s : Slot) → rows_in pbufs.new.items s ≤ rows_of seat.new.kept s }
-    ensures cut { IsCutTo seat.old seat.new pbufs.old.items pbufs.new.items }
-    ensures capacity { vec_capacity pbufs.new ≡ vec_capacity pbufs.old }
-{
-    let mut left = n;
-    while left > 0 {
-        left = cut_last(pbufs, seat, left);
-    }
-}
-
-// Cuts n octets or the first pbuf off the front; how many octets are still to be cut.
-fn cut_first(pbufs: &mut Vec<Pbuf>, seat: &mut PoolSeat, n: u32) -> u32
+// Cuts n octets or the first span off the front; how many octets are still to be cut.
+fn cut_first(spans: &mut Vec<Span>, seat: &mut PoolSeat, n: u32) -> u32
     requires some { 0 < n }
-    requires within { n ≤ length (joined pbufs.old.items) }
-    requires chain { IsChain seat.old.holder.table pbufs.old.items }
-    requires listed { (s : Slot) → rows_in pbufs.old.items s ≤ rows_of seat.old.kept s }
-    ensures octets { drop result (joined pbufs.new.items) ≡ drop n (joined pbufs.old.items) }
-    ensures within { result ≤ length (joined pbufs.new.items) }
+    requires within { n ≤ length (joined (all_parts spans.old.items)) }
+    requires chain { IsChain seat.old.holder.table (all_parts spans.old.items) }
+    requires full { NoneEmpty spans.old.items }
+    requires listed { (s : Slot) → rows_in (all_parts spans.old.items) s ≤ rows_of seat.old.kept s }
+    ensures octets { drop result (joined (all_parts spans.new.items)) ≡ drop n (joined (all_parts spans.old.items)) }
+    ensures within { result ≤ length (joined (all_parts spans.new.items)) }
     ensures less { result < n }
-    ensures chain { IsChain seat.new.holder.table pbufs.new.items }
-    ensures cut { IsCutTo seat.old seat.new pbufs.old.items pbufs.new.items }
-    ensures capacity { vec_capacity pbufs.new ≡ vec_capacity pbufs.old }
+    ensures chain { IsChain seat.new.holder.table (all_parts spans.new.items) }
+    ensures full { NoneEmpty spans.new.items }
+    ensures cut { IsCutTo seat.old seat.new (all_parts spans.old.items) (all_parts spans.new.items) }
+    ensures capacity { vec_capacity spans.new ≡ vec_capacity spans.old }
+    ensures fewer { length spans.new.items ≤ length spans.old.items }
 {
-    let len = pbufs[0].len();
+    let len = spans[0].len();
     if n < len {
-        pbufs[0].cut_front(n);
+        spans[0].cut_front(seat, n);
         return 0;
     }
-    let first = pbufs.remove(0);
-    give_up(first, seat);
+    let first = spans.remove(0);
+    first.give_up(seat);
     n - len
 }
 
-// Cuts n octets or the last pbuf off the back; how many octets are still to be cut.
-fn cut_last(pbufs: &mut Vec<Pbuf>, seat: &mut PoolSeat, n: u32) -> u32
-    requires some { 0 < n }
-    requires within { n ≤ length (joined pbufs.old.items) }
-    requires chain { IsChain seat.old.holder.table pbufs.old.items }
-    requires listed { (s : Slot) → rows_in pbufs.old.items s ≤ rows_of seat.old.kept s }
-    ensures octets { take (length (joined pbufs.new.items) - result) (joined pbufs.new.items) ≡ take (length (joined pbufs.old.items) - n) (joined pbufs.old.items) }
-    ensures count { length (joined pbufs.new.items) + n ≡ length (joined pbufs.old.items) + result }
-    ensures less { result < n }
-    ensures chain { IsChain seat.new.holder.table pbufs.new.items }
-    ensures cut { IsCutTo seat.old seat.new pbufs.old.items pbufs.new.items }
-    ensures capacity { vec_capacity pbufs.new ≡ vec_capacity pbufs.old }
+// Cuts the last n octets off, as far as there are any; how many are still to be cut.
+fn back_off(spans: &mut Vec<Span>, seat: &mut PoolSeat, n: u32) -> u32
+    requires chain { IsChain seat.old.holder.table (all_parts spans.old.items) }
+    requires full { NoneEmpty spans.old.items }
+    requires listed { (s : Slot) → rows_in (all_parts spans.old.items) s ≤ rows_of seat.old.kept s }
+    ensures left { result ≡ n - length (joined (all_parts spans.old.items)) }
+    ensures octets { joined (all_parts spans.new.items) ≡ take (length (joined (all_parts spans.old.items)) - n) (joined (all_parts spans.old.items)) }
+    ensures chain { IsChain seat.new.holder.table (all_parts spans.new.items) }
+    ensures full { NoneEmpty spans.new.items }
+    ensures listed { (s : Slot) → rows_in (all_parts spans.new.items) s ≤ rows_of seat.new.kept s }
+    ensures cut { IsCutTo seat.old seat.new (all_parts spans.old.items) (all_parts spans.new.items) }
+    ensures capacity { vec_capacity spans.new ≡ vec_capacity spans.old }
+    ensures fewer { length spans.new.items ≤ length spans.old.items }
 {
-    let Some(mut last) = pbufs.pop() else {
-        return 0;
-    };
+    let mut left = n;
+    while left > 0 {
+        let Some(last) = spans.pop() else {
+            return left;
+        };
+        left = cut_last(spans, last, seat, left);
+    }
+    left
+}
+
+// Cuts n octets off a span that stood behind these, and puts it back where any are left; how many octets are still to be cut.
+fn cut_last(spans: &mut Vec<Span>, mut last: Span, seat: &mut PoolSeat, n: u32) -> u32
+    requires some { (0 < n) × (0 < length last) }
+    requires chain { IsChain seat.old.holder.table (all_parts spans.old.items ++ last) }
+    requires full { NoneEmpty spans.old.items }
+    requires room { length spans.old.items < vec_capacity spans.old }
+    requires listed { (s : Slot) → rows_in (all_parts spans.old.items ++ last) s ≤ rows_of seat.old.kept s }
+    ensures left { result ≡ n - length (joined last) }
+    ensures octets { result ≡ 0 → joined (all_parts spans.new.items) ≡ take (length (joined (all_parts spans.old.items ++ last)) - n) (joined (all_parts spans.old.items ++ last)) }
+    ensures same { 0 < result → spans.new ≡ spans.old }
+    ensures chain { IsChain seat.new.holder.table (all_parts spans.new.items) }
+    ensures full { NoneEmpty spans.new.items }
+    ensures listed { (s : Slot) → rows_in (all_parts spans.new.items) s ≤ rows_of seat.new.kept s }
+    ensures cut { IsCutTo seat.old seat.new (all_parts spans.old.items ++ last) (all_parts spans.new.items) }
+    ensures capacity { vec_capacity spans.new ≡ vec_capacity spans.old }
+    ensures fewer { length spans.new.items ≤ length spans.old.items + 1 }
+{
     let len = last.len();
-    if len > n {
-        last.keep_front(len - n);
-        pbufs.push_reserved(last);
+    if n < len {
+        last.cut_back(seat, n);
+        spans.push_reserved(last);
         return 0;
     }
-    give_up(last, seat);
+    last.give_up(seat);
     n - len
 }
 
-// Writes these octets over those of the pbufs, of which there are as many.
-fn write_over(pbufs: &mut [Pbuf], octets: &[u8])
-    requires own { all_own pbufs.old ≡ true }
-    requires exact { length octets.now ≡ length (joined pbufs.old) }
-    ensures octets { joined pbufs.new ≡ octets.now }
-    ensures same { IsRewritten pbufs.old pbufs.new }
+// Writes these octets over those of the spans, of which there are as many.
+fn write_over(spans: &mut [Span], octets: &[u8])
+    requires own { all_own (all_parts spans.old) ≡ true }
+    requires exact { length octets.now ≡ length (joined (all_parts spans.old)) }
+    ensures octets { joined (all_parts spans.new) ≡ octets.now }
+    ensures same { IsRewritten (all_parts spans.old) (all_parts spans.new) }
+    ensures full { NoneEmpty spans.old → NoneEmpty spans.new }
 {
     let mut rest = octets;
-    for pbuf in pbufs.iter_mut() {
-        let (front, back) = rest.split_at(pbuf.len() as usize);
-        pbuf.write(front);
+    for span in spans.iter_mut() {
+        let (front, back) = rest.split_at(span.len() as usize);
+        span.write(front);
         rest = back;
     }
 }

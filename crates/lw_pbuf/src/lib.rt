@@ -1,4 +1,4 @@
-//! Chains of pbufs: octets in windows on bodies, and an owner of each pbuf.
+//! Chains of pbufs: octets in spans, and an owner of each pbuf.
 #![tactic(auto)]
 
 mod chain;
@@ -20,6 +20,6 @@ mod thread_tests;
 pub use chain::Chain;
 pub use free::pbuf_free;
 pub use make::{AllocFault, pbuf_alloc};
-pub use pbuf_seats::{Body, Free, Pbuf, PoolSeat};
+pub use pbuf_seats::{Free, PoolSeat};
 pub use share::pbuf_ref;
 pub use std::alloc::AllocError as NoMemory;

@@ -1,19 +1,19 @@
 //! How a chain is made.
-ghost use Rattle.std.specs.Prelude.{◌≡◌, ◌+◌, ◌-◌, ◌^◌, ◌<◌, ◌≤◌, length, true, All, IfOk, IfErr, IsOk};
+ghost use Rattle.std.specs.Prelude.{◌≡◌, ◌+◌, ◌-◌, ◌^◌, ◌<◌, ◌≤◌, [], length, true, vec_capacity, IfOk, IfErr, IsOk};
 ghost use Rattle.std.specs.Arc.{arc_value};
 ghost use Rattle.lw_payload.specs.declared.kinds.Kind.{Kind};
 ghost use Rattle.lw_payload.specs.Views.{pbufs_of};
 ghost use Rattle.lw_pbuf.specs.declared.make.AllocFault.{AllocFault};
-ghost use Rattle.lw_pbuf.specs.Chains.{joined, all_own, IsOf};
+ghost use Rattle.lw_pbuf.specs.Chains.{IsOf};
 ghost use Rattle.lw_pbuf.specs.Takes.{is_counted};
 ghost use Rattle.lw_pbuf.specs.Makes.{longest_of, granted_of, denied_of, IsAlloc, IsDenied, KeepsSeat};
 
 use crate::chain::Chain;
-use crate::free::{free_all, keep_from};
-use crate::take::{bodies, fill};
+use crate::take::{fill, pbufs_for};
 use lw_payload::Kind;
 use pbuf_counts::Counts;
 use pbuf_seats::{Pbuf, PoolSeat};
+use pbuf_spans::{Span, give_up_all};
 use std::alloc::{AllocError, Global};
 use std::sync::Arc;
 
@@ -39,6 +39,7 @@ impl From<AllocError> for AllocFault {
 }
 
 // So many octets a chain of the kind has at most.
+#[inline(always)]
 fn longest(kind: Kind) -> usize
     ensures exact { result ≡ longest_of kind }
     ensures small { result ≤ 65535 }
@@ -50,6 +51,7 @@ fn longest(kind: Kind) -> usize
 }
 
 // Counts a make of POOL that is made.
+#[inline(always)]
 fn granted(seat: &mut PoolSeat, kind: Kind, octets: u32)
     requires { kind ≡ Kind.Pool → seat.old.makes.made + seat.old.makes.refused < 2 ^ 64 - 1 }
     ensures makes { seat.new.makes ≡ granted_of kind octets seat.old.makes }
@@ -65,6 +67,7 @@ fn granted(seat: &mut PoolSeat, kind: Kind, octets: u32)
 }
 
 // Counts one that is refused.
+#[inline(always)]
 fn denied(seat: &mut PoolSeat, kind: Kind, octets: u32)
     requires { kind ≡ Kind.Pool → seat.old.makes.made + seat.old.makes.refused < 2 ^ 64 - 1 }
     ensures makes { seat.new.makes ≡ denied_of kind octets seat.old.makes }
@@ -81,6 +84,7 @@ fn denied(seat: &mut PoolSeat, kind: Kind, octets: u32)
 
 /// A chain of these octets in pbufs of the kind. It needs the right to claim where the kind is POOL and not kept.
 /// `TooLong` is looked at first.
+#[inline(always)]
 pub fn pbuf_alloc(
     alloc: Global,
     seat: &mut PoolSeat,
@@ -103,39 +107,41 @@ pub fn pbuf_alloc(
         return Err(AllocFault::TooLong);
     }
     let counts = seat.counts()?;
-    let pbufs = bodies(alloc, seat, kind, octets)?;
-    chain_of(seat, kind, octets, counts, pbufs)
+    let body = seat.buffer(alloc, octets)?;
+    let pbufs = seat.list(alloc, pbufs_for(kind, octets.len()))?;
+    chain_of(seat, kind, counts, body, pbufs)
 }
 
-// A chain of these pbufs, which hold the octets and have no owners yet.
+// A chain of these octets, with owners that are taken for it.
+#[inline(always)]
 fn chain_of(
     seat: &mut PoolSeat,
     kind: Kind,
-    octets: &[u8],
     counts: Arc<Counts>,
+    body: Vec<u8>,
     mut pbufs: Vec<Pbuf>,
 ) -> Result<Chain, AllocFault>
     requires table { arc_value counts ≡ seat.old.holder.table }
-    requires small { length octets.now ≤ 65535 }
-    requires octets { joined pbufs.items ≡ octets.now }
-    requires few { length pbufs.items ≡ pbufs_of kind (length octets.now) }
-    requires some { All (λ p. 0 < length p.octets) pbufs.items }
-    requires own { all_own pbufs.items ≡ true }
+    requires small { length body.items ≤ 65535 }
+    requires none { pbufs.items ≡ [] }
+    requires room { pbufs_of kind (length body.items) ≤ vec_capacity pbufs }
     requires right { is_counted seat.old kind ≡ true → seat.old.holder.rights ≡ 1 }
     requires countable { kind ≡ Kind.Pool → seat.old.makes.made + seat.old.makes.refused < 2 ^ 64 - 1 }
     requires settled { kind ≡ Kind.Pool → seat.old.claimed ≡ 0 }
-    ensures made { IfOk result (λ c. IsAlloc seat.old seat.new kind octets.now c) }
+    ensures made { IfOk result (λ c. IsAlloc seat.old seat.new kind body.items c) }
     ensures of { IfOk result (λ c. IsOf seat.new c) }
-    ensures empty { IfErr result (λ e. (e ≡ AllocFault.PoolEmpty kind) × IsDenied seat.old seat.new kind (length octets.now)) }
-    ensures keeps { KeepsSeat seat.old seat.new kind (length octets.now) }
+    ensures empty { IfErr result (λ e. (e ≡ AllocFault.PoolEmpty kind) × IsDenied seat.old seat.new kind (length body.items)) }
+    ensures keeps { KeepsSeat seat.old seat.new kind (length body.items) }
 {
-    let taken = fill(seat, kind, pbufs.as_mut_slice());
-    if taken == pbufs.len() {
-        granted(seat, kind, octets.len() as u32);
-        return Ok(Chain::of(counts, pbufs));
+    let rest = Vec::new(*pbufs.allocator());
+    let octets = body.len() as u32;
+    if fill(seat, kind, body.as_slice(), &mut pbufs) {
+        granted(seat, kind, octets);
+        return Ok(Chain::of(counts, Span::of(body, pbufs), rest));
     }
-    keep_from(taken, &mut pbufs, seat);
-    free_all(pbufs, seat);
-    denied(seat, kind, octets.len() as u32);
+    give_up_all(pbufs, seat);
+    seat.keep_buffer(body);
+    seat.keep_counts(counts);
+    denied(seat, kind, octets);
     Err(AllocFault::PoolEmpty(kind))
 }

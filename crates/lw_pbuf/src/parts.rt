@@ -1,6 +1,5 @@
 //! A chain that is taken apart.
 ghost use Rattle.std.specs.Prelude.{◌≡◌, ◌<◌, ◌≤◌, take, drop, length, None, Some, IfOk, IfSome, OnErr};
-ghost use Rattle.lw_pbuf.specs.Chains.{IsChain};
 
 use crate::NoMemory;
 use crate::chain::Chain;
@@ -16,13 +15,27 @@ impl Chain {
         ensures none { result ≡ Ok None → (length self.old.parts ≤ 1) × (self.new ≡ self.old) }
         ensures err { OnErr result (self.new ≡ self.old) }
     {
-        if self.pbufs.len() <= 1 {
+        if self.clen() <= 1 {
             return Ok(None);
         }
         let counts = Arc::try_clone(&self.counts)?;
-        let mut firsts = Vec::with_capacity(*self.pbufs.allocator(), 1)?;
-        firsts.push_reserved(self.pbufs.remove(0));
-        let pbufs = mem::replace(&mut self.pbufs, firsts);
-        Ok(Some(Chain { counts, pbufs }))
+        let alloc = *self.rest.allocator();
+        if self.first.clen() > 0 {
+            let first = self.first.split_first()?;
+            let rest = mem::replace(&mut self.rest, Vec::new(alloc));
+            return Ok(Some(Chain {
+                counts,
+                first,
+                rest,
+            }));
+        }
+        let first = self.rest[0].split_first()?;
+        let mut rest = mem::replace(&mut self.rest, Vec::new(alloc));
+        self.first = rest.remove(0);
+        Ok(Some(Chain {
+            counts,
+            first,
+            rest,
+        }))
     }
 }

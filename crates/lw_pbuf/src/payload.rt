@@ -26,6 +26,7 @@ impl Payload for Chain {
 
     ghost frees = { λ _ h k n. ended_at k ≡ ended_at h + n };
 
+    #[inline(always)]
     fn make(
         alloc: Global,
         home: &mut PoolSeat,
@@ -45,7 +46,7 @@ impl Payload for Chain {
     }
 
     fn len(&self) -> u32 {
-        self.tot_len(0)
+        Chain::len(self)
     }
 
     fn parts(&self) -> u32 {
@@ -56,6 +57,7 @@ impl Payload for Chain {
         Chain::copy_at(self, from, out);
     }
 
+    #[inline(always)]
     fn cut_front(&mut self, home: &mut PoolSeat, n: u32) {
         Chain::cut_front(self, home, n);
     }
@@ -72,10 +74,12 @@ impl Payload for Chain {
         self.cat(other);
     }
 
+    #[inline(always)]
     fn share(&mut self, home: &mut PoolSeat) -> Result<Chain, ShareFault> {
         Chain::share(self, home)
     }
 
+    #[inline(always)]
     fn spend(self, home: &mut PoolSeat) -> u32 {
         pbuf_free(self, home)
     }

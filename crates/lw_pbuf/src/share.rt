@@ -1,18 +1,20 @@
 //! Shares: a second chain of the same octets, with owners of its own.
-ghost use Rattle.std.specs.Prelude.{◌≡◌, ◌+◌, ◌^◌, ◌<◌, ◌≤◌, Bool, true, false, length, map, vec_capacity, All, IsOk, IsTrue, IfOk, OnOk, OnErr};
-ghost use Rattle.lw_payload.specs.Views.{Slot};
+ghost use Rattle.std.specs.Prelude.{◌≡◌, ◌+◌, ◌^◌, ◌<◌, ◌≤◌, [], ◌++◌, Bool, true, false, length, vec_capacity, All, IsOk, IfOk, OnOk, OnErr};
+ghost use Rattle.std.specs.Arc.{arc_value};
+ghost use Rattle.std.specs.List.{AllZip};
 ghost use Rattle.lw_payload.specs.declared.kinds.ShareFault.{ShareFault};
-ghost use Rattle.lw_payload.specs.declared.kinds.Kind.{Kind};
-ghost use Rattle.pbuf_seats.specs.Kept.{rows_of, counts_of};
-ghost use Rattle.pbuf_seats.specs.Owners.{row_of, weight_of, adds_of, sharing, share_of, IsOwner, HasRoom};
-ghost use Rattle.lw_pbuf.specs.Chains.{joined, rows_in, least_adds, IsChain, IsOf};
-ghost use Rattle.lw_pbuf.specs.Shares.{handed, as_shared, AreWindows, MayShare, AllShared, IsSharedTo, IsChained};
+ghost use Rattle.pbuf_seats.specs.Owners.{HasRoom};
+ghost use Rattle.pbuf_spans.specs.Parts.{joined, least_adds};
+ghost use Rattle.pbuf_spans.specs.Shares.{MayShare, AllShared, IsTwin};
+ghost use Rattle.lw_pbuf.specs.Chains.{all_parts, NoneEmpty, IsOf};
+ghost use Rattle.lw_pbuf.specs.Shares.{IsSharedTo, IsChained};
 
 use crate::NoMemory;
 use crate::chain::Chain;
-use crate::free::keep_from;
 use lw_payload::ShareFault;
-use pbuf_seats::{Body, Pbuf, PoolSeat};
+use pbuf_counts::Counts;
+use pbuf_seats::PoolSeat;
+use pbuf_spans::{Span, Twin};
 use std::alloc::Global;
 use std::sync::Arc;
 
@@ -31,6 +33,7 @@ pub fn pbuf_ref(c: &mut Chain, seat: &mut PoolSeat) -> Result<Chain, ShareFault>
 
 impl Chain {
     /// A second chain of the same octets, whose owners may add none.
+    #[inline(always)]
     pub fn share(&mut self, seat: &mut PoolSeat) -> Result<Chain, ShareFault>
         requires { IsOf seat.old self.old }
         ensures shared { IfOk result (λ o. IsSharedTo false seat.old seat.new self.old self.new o) }
@@ -59,7 +62,8 @@ impl Chain {
         Ok(())
     }
 
-    // Memory first: the bodies become shared ones, then come the owners.
+    // Memory first, then the owners.
+    #[inline(always)]
     fn share_with(&mut self, seat: &mut PoolSeat, hands: bool) -> Result<Chain, ShareFault>
         requires { IsOf seat.old self.old }
         ensures shared { IfOk result (λ o. IsSharedTo hands seat.old seat.new self.old self.new o) }
@@ -67,150 +71,126 @@ impl Chain {
         ensures too_many { result ≡ Err ShareFault.TooMany → least_adds self.old.parts ≡ 0 }
         ensures err { OnErr result ((self.new ≡ self.old) × (seat.new ≡ seat.old)) }
     {
-        if !has_adds(self.pbufs.as_slice()) {
+        if !self.has_adds() {
             return Err(ShareFault::TooMany);
         }
-        if !has_rooms(self.pbufs.as_slice(), seat) {
+        if !self.has_rooms(seat) {
             return Err(ShareFault::NoMemory);
         }
-        let counts = Arc::try_clone(&self.counts)?;
-        let mut pbufs = windows(&mut self.pbufs, seat)?;
-        add_owners(self.pbufs.as_mut_slice(), pbufs.as_mut_slice(), seat, hands);
-        Ok(Chain { counts, pbufs })
+        let counts = seat.counts()?;
+        if !self.rest.is_empty() {
+            return self.share_all(seat, hands, counts);
+        }
+        let rest = Vec::new(*self.rest.allocator());
+        let first = self.first.share(seat, hands)?;
+        Ok(Chain {
+            counts,
+            first,
+            rest,
+        })
+    }
+
+    // Whether each owner may add one.
+    #[inline(always)]
+    fn has_adds(&self) -> bool
+        ensures some { result ≡ true → 0 < least_adds self.now.parts }
+        ensures none { result ≡ false → least_adds self.now.parts ≡ 0 }
+    {
+        self.first.has_adds() && have_adds(self.rest.as_slice())
+    }
+
+    // Whether each kept count has room for an owner of each pbuf.
+    #[inline(always)]
+    fn has_rooms(&self, seat: &PoolSeat) -> bool
+        ensures { result ≡ true → All (λ p. HasRoom (length self.now.parts) seat.now p.owner) self.now.parts }
+    {
+        let count = self.clen();
+        self.first.has_rooms(seat, count) && have_rooms(self.rest.as_slice(), seat, count)
+    }
+
+    // A second chain of the same octets, where there are several spans.
+    #[inline(never)]
+    fn share_all(
+        &mut self,
+        seat: &mut PoolSeat,
+        hands: bool,
+        counts: Arc<Counts>,
+    ) -> Result<Chain, ShareFault>
+        requires table { arc_value counts ≡ self.old.table }
+        requires may { MayShare seat.old self.old.parts }
+        ensures shared { IfOk result (λ o. IsSharedTo hands seat.old seat.new self.old self.new o) }
+        ensures err { OnErr result ((result ≡ Err ShareFault.NoMemory) × (self.new ≡ self.old) × (seat.new ≡ seat.old)) }
+    {
+        let alloc = *self.rest.allocator();
+        let mut rest = Vec::with_capacity(alloc, self.rest.len())?;
+        let twin = self.first.twin(seat)?;
+        let twins = twins(alloc, self.rest.as_slice(), seat)?;
+        let first = self.first.share_with(twin, seat, hands);
+        share_spans(self.rest.as_mut_slice(), twins, &mut rest, seat, hands);
+        Ok(Chain {
+            counts,
+            first,
+            rest,
+        })
     }
 }
 
 // Whether each owner may add one.
-fn has_adds(pbufs: &[Pbuf]) -> bool
-    ensures some { result ≡ true → 0 < least_adds pbufs.now }
-    ensures none { result ≡ false → least_adds pbufs.now ≡ 0 }
+fn have_adds(spans: &[Span]) -> bool
+    ensures some { result ≡ true → 0 < least_adds (all_parts spans.now) }
+    ensures none { result ≡ false → least_adds (all_parts spans.now) ≡ 0 }
 {
-    for pbuf in pbufs {
-        if pbuf.adds() == 0 {
+    for span in spans {
+        if !span.has_adds() {
             return false;
         }
     }
     true
 }
 
-// Whether each kept count has room for an owner of each pbuf.
-fn has_rooms(pbufs: &[Pbuf], seat: &PoolSeat) -> bool
-    requires { length pbufs.now < 2 ^ 32 }
-    ensures { result ≡ true → All (λ p. HasRoom (length pbufs.now) seat.now p.owner) pbufs.now }
+// Whether each kept count has room for so many owners more.
+fn have_rooms(spans: &[Span], seat: &PoolSeat, more: u32) -> bool
+    ensures { result ≡ true → All (λ p. HasRoom more seat.now p.owner) (all_parts spans.now) }
 {
-    let count = pbufs.len() as u32;
-    for pbuf in pbufs {
-        if !seat.has_room(&pbuf.owner, count) {
+    for span in spans {
+        if !span.has_rooms(seat, more) {
             return false;
         }
     }
     true
 }
 
-// The same windows without owners, on bodies that are shared from now on.
-// The buffers that they leave go to the seat's spare ones.
-fn windows(pbufs: &mut Vec<Pbuf>, seat: &mut PoolSeat) -> Result<Vec<Pbuf>, NoMemory>
-    ensures same { OnOk result (pbufs.new.items ≡ map as_shared pbufs.old.items) }
-    ensures windows { IfOk result (λ ps. AreWindows pbufs.old.items ps.items) }
-    ensures capacity { vec_capacity pbufs.new ≡ vec_capacity pbufs.old }
-    ensures err { OnErr result (pbufs.new ≡ pbufs.old) }
-    ensures seat { seat.new ≡ seat.old }
-{
-    let alloc = *pbufs.allocator();
-    let theirs = copies(pbufs.as_slice(), alloc, seat)?;
-    if all_shared(pbufs.as_slice()) {
-        return Ok(theirs);
-    }
-    let mut mine = copies(theirs.as_slice(), alloc, seat)?;
-    adopt(pbufs.as_mut_slice(), mine.as_mut_slice());
-    keep_from(0, &mut mine, seat);
-    seat.keep_list(mine);
-    Ok(theirs)
-}
-
-// Whether all bodies are shared.
-fn all_shared(pbufs: &[Pbuf]) -> bool
-    ensures { result ≡ true → All (λ p. p.own ≡ false) pbufs.now }
-{
-    for pbuf in pbufs {
-        if !pbuf.is_shared() {
-            return false;
-        }
-    }
-    true
-}
-
-// Windows on shared bodies that have the octets of these pbufs, with no owners yet.
-fn copies(pbufs: &[Pbuf], alloc: Global, seat: &mut PoolSeat) -> Result<Vec<Pbuf>, NoMemory>
-    ensures windows { IfOk result (λ ps. AreWindows pbufs.now ps.items) }
+// Memory for shares of these spans, one for each.
+fn twins(alloc: Global, spans: &[Span], seat: &mut PoolSeat) -> Result<Vec<Twin>, NoMemory>
+    ensures twins { IfOk result (λ ts. AllZip IsTwin spans.now ts.items) }
     ensures same { seat.new ≡ seat.old }
 {
-    let mut windows = seat.list(alloc, pbufs.len())?;
-    for pbuf in pbufs {
-        windows.push_reserved(copy(pbuf, alloc, seat)?);
+    let mut twins = Vec::with_capacity(alloc, spans.len())?;
+    for span in spans {
+        twins.push_reserved(span.twin(seat)?);
     }
-    Ok(windows)
+    Ok(twins)
 }
 
-// A window on a shared body that has the octets of this pbuf: on the same body where that is shared.
-fn copy(pbuf: &Pbuf, alloc: Global, seat: &mut PoolSeat) -> Result<Pbuf, NoMemory>
-    ensures octets { IfOk result (λ p. p.octets ≡ pbuf.now.octets) }
-    ensures own { IfOk result (λ p. p.own ≡ false) }
-    ensures same { seat.new ≡ seat.old }
+// A second span for each of these.
+fn share_spans(
+    spans: &mut [Span],
+    twins: Vec<Twin>,
+    others: &mut Vec<Span>,
+    seat: &mut PoolSeat,
+    hands: bool,
+)
+    requires twins { AllZip IsTwin spans.old twins.items }
+    requires may { MayShare seat.old (all_parts spans.old) }
+    requires none { others.old.items ≡ [] }
+    requires room { length spans.old ≤ vec_capacity others.old }
+    ensures shared { AllShared hands seat.old seat.new (all_parts spans.old) (all_parts spans.new) (all_parts others.new.items) }
+    ensures full { NoneEmpty spans.old → NoneEmpty spans.new × NoneEmpty others.new.items }
+    ensures capacity { vec_capacity others.new ≡ vec_capacity others.old }
 {
-    match &pbuf.body {
-        Body::Own(_) => {
-            let body = seat.shared_buffer(alloc, pbuf.octets())?;
-            Ok(Pbuf::window(body, 0, pbuf.len()))
-        }
-        Body::Shared(body) => {
-            let body = Arc::try_clone(body)?;
-            Ok(Pbuf::window(body, pbuf.from, pbuf.to))
-        }
+    let mut i = 0;
+    for twin in twins {
+        others.push_reserved(spans[i].share_with(twin, seat, hands));
+        i += 1;
     }
-}
-
-// Puts the windows of `mine` in the place of those of the pbufs.
-fn adopt(pbufs: &mut [Pbuf], mine: &mut [Pbuf])
-    requires { AreWindows pbufs.old mine.old }
-    ensures { pbufs.new ≡ map as_shared pbufs.old }
-{
-    for i in 0..pbufs.len() {
-        pbufs[i].swap_octets(&mut mine[i]);
-    }
-}
-
-// One owner more of each pbuf, for the window that has its octets.
-fn add_owners(pbufs: &mut [Pbuf], windows: &mut [Pbuf], seat: &mut PoolSeat, hands: bool)
-    requires { MayShare seat.old pbufs.old windows.old }
-    ensures { AllShared hands seat.old seat.new pbufs.old pbufs.new windows.new }
-{
-    for i in 0..pbufs.len() {
-        add_owner(&mut pbufs[i], &mut windows[i], seat, hands);
-    }
-}
-
-// One owner more of one pbuf.
-fn add_owner(pbuf: &mut Pbuf, window: &mut Pbuf, seat: &mut PoolSeat, hands: bool)
-    requires owner { IsOwner seat.old pbuf.old.owner }
-    requires room { HasRoom 1 seat.old pbuf.old.owner }
-    requires some { 0 < adds_of pbuf.old.owner }
-    ensures first { pbuf.new ≡ record pbuf.old { owner = sharing (handed hands (adds_of pbuf.old.owner)) pbuf.old.owner } }
-    ensures second { window.new ≡ record window.old { owner = share_of (handed hands (adds_of pbuf.old.owner)) pbuf.old.owner } }
-    ensures sum { weight_of pbuf.new.owner + weight_of window.new.owner ≡ weight_of pbuf.old.owner }
-    ensures rows { (s : Slot) → rows_of seat.new.kept s ≡ rows_of seat.old.kept s + row_of window.new.owner s }
-    ensures sizes { (k : Kind) → length (counts_of k seat.new.kept) ≡ length (counts_of k seat.old.kept) }
-    ensures same { seat.new ≡ record seat.old { kept = seat.new.kept } }
-{
-    let adds = adds_to_hand(hands, pbuf.adds());
-    window.owner = seat.share(&mut pbuf.owner, adds);
-}
-
-// How many of its adds an owner hands to the new one.
-fn adds_to_hand(hands: bool, adds: u32) -> u32
-    requires { 0 < adds }
-    ensures adds { result ≡ handed hands adds }
-    ensures less { result < adds }
-{
-    if hands && adds > 15 { 15 } else { 0 }
 }

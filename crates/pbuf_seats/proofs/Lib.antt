@@ -1,2 +1,1 @@
 mod Looks
-mod Windows

@@ -1,5 +1,3 @@
 pub mod Kept
 pub mod Seats
 pub mod Owners
-pub mod Parts
-pub mod Bodies

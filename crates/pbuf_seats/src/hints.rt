@@ -1,7 +1,7 @@
 //! Where to begin to look for a pbuf without an owner.
 use lw_payload::Kind;
 
-/// The place behind that of the pbuf that was taken last, for each kind. No contract speaks of it.
+/// A place for each kind. No contract speaks of it.
 #[derive(Drop)]
 pub struct Hints {
     ram: u32,
@@ -18,6 +18,7 @@ impl Hints {
         reference: 0,
     };
 
+    #[inline(always)]
     pub(crate) fn of(&self, kind: Kind) -> u32 {
         match kind {
             Kind::Ram => self.ram,
@@ -27,13 +28,13 @@ impl Hints {
         }
     }
 
-    pub(crate) fn taken(&mut self, kind: Kind, place: u32) {
-        let next = place.saturating_add(1);
+    #[inline(always)]
+    pub(crate) fn set(&mut self, kind: Kind, place: u32) {
         match kind {
-            Kind::Ram => self.ram = next,
-            Kind::Pool => self.pool = next,
-            Kind::Rom => self.rom = next,
-            Kind::Ref => self.reference = next,
+            Kind::Ram => self.ram = place,
+            Kind::Pool => self.pool = place,
+            Kind::Rom => self.rom = place,
+            Kind::Ref => self.reference = place,
         }
     }
 }

@@ -41,6 +41,7 @@ impl Kept {
     }
 
     /// The counts of one kind.
+    #[inline(always)]
     pub fn of(&self, kind: Kind) -> &[u32]
         ensures counts { result.now ≡ counts_of kind self.now }
         ensures few { length result.now < 2 ^ 32 }
@@ -61,6 +62,7 @@ impl Kept {
     }
 
     /// How many owners the pbuf at this place has; none where there is no such place.
+    #[inline(always)]
     pub fn count(&self, kind: Kind, place: u32) -> u32
         ensures { result ≡ rows_of self.now (record { kind = kind; place = place }) }
     {
@@ -68,6 +70,7 @@ impl Kept {
     }
 
     /// Takes the pbuf at this place, which has no owner.
+    #[inline(always)]
     pub fn take(&mut self, kind: Kind, place: u32)
         requires there { place < length (counts_of kind self.old) }
         requires free { rows_of self.old (record { kind = kind; place = place }) ≡ 0 }
@@ -85,6 +88,7 @@ impl Kept {
     }
 
     /// Gives an owner of the pbuf at this place up, and tells whether it was the last.
+    #[inline(always)]
     pub fn give(&mut self, kind: Kind, place: u32) -> bool
         requires owned { 0 < rows_of self.old (record { kind = kind; place = place }) }
         ensures rows { (s : Slot) → rows_of self.new s + row_at kind place s ≡ rows_of self.old s }
@@ -101,6 +105,7 @@ impl Kept {
     }
 
     /// Adds an owner of the pbuf at this place, which has one already.
+    #[inline(always)]
     pub fn add(&mut self, kind: Kind, place: u32)
         requires owned { 0 < rows_of self.old (record { kind = kind; place = place }) }
         requires small { rows_of self.old (record { kind = kind; place = place }) + 1 < 2 ^ 32 }
@@ -118,6 +123,7 @@ impl Kept {
 }
 
 // One owner less of the pbuf at this place; whether it was the last.
+#[inline(always)]
 fn give(counts: &mut [u32], place: u32) -> bool
     requires owned { 0 < slice_index counts.old place }
     ensures counts { counts.new ≡ slice_set counts.old place (slice_index counts.old place - 1) }
@@ -130,6 +136,7 @@ fn give(counts: &mut [u32], place: u32) -> bool
 }
 
 // One owner more.
+#[inline(always)]
 fn add(counts: &mut [u32], place: u32)
     requires owned { 0 < slice_index counts.old place }
     requires small { slice_index counts.old place + 1 < 2 ^ 32 }
@@ -139,6 +146,7 @@ fn add(counts: &mut [u32], place: u32)
 }
 
 // The first owner.
+#[inline(always)]
 fn take(counts: &mut [u32], place: u32)
     requires there { place < length counts.old }
     requires free { slice_index counts.old place ≡ 0 }

@@ -15,6 +15,6 @@ mod tests;
 pub use kept::Kept;
 pub use makes::Makes;
 pub use owner::{Owner, Row};
-pub use pbuf::{Body, Pbuf};
+pub use pbuf::Pbuf;
 pub use seat::{Free, PoolSeat};
 pub use std::alloc::AllocError as NoMemory;

@@ -1,5 +1,5 @@
 //! A seat: what pbufs are taken from, and given up to.
-ghost use Rattle.std.specs.Prelude.{◌≡◌, ℕ, ◌+◌, ◌-◌, ◌^◌, ◌<◌, ◌≤◌, [], true, false, length, vec_capacity, replicate, ◌∷◌, ◌↔◌, min, if◌then◌else◌, IsTrue, IsSome, IsNone, IfSome, IfOk, OnErr};
+ghost use Rattle.std.specs.Prelude.{◌≡◌, ℕ, ◌+◌, ◌-◌, ◌^◌, ◌<◌, ◌≤◌, [], true, false, length, vec_capacity, replicate, ◌∷◌, ◌↔◌, min, if◌then◌else◌, All, IsTrue, IsSome, IsNone, IfSome, IfOk, OnOk, OnErr};
 ghost use Rattle.std.specs.Arc.{arc_value};
 ghost use Rattle.lw_payload.specs.Views.{Slot, pbufs_of};
 ghost use Rattle.lw_payload.specs.declared.kinds.Kind.{Kind};
@@ -49,6 +49,7 @@ pub struct Free {
 #[derive(Drop)]
 pub struct PoolSeat {
     counts: Arc<Counts>,
+    spare_counts: Vec<Arc<Counts>>,
     holder: Holder,
     kept: Kept,
     makes: Makes,
@@ -67,12 +68,14 @@ impl Model for PoolSeat {
 
     ghost coded = { Prim.hlevel (codes, table_id_coded) };
 
+    ghost use Rattle.std.specs.Prelude.{◌≡◌, All};
     ghost use Rattle.std.specs.Arc.{arc_value};
     ghost use Rattle.pbuf_seats.specs.Seats.{IsSeat};
 
     ghost view = { λ s. record { holder = s.holder; kept = s.kept; makes = s.makes; splits = s.splits; claimed = s.claimed } };
 
-    ghost invariant = { λ s. IsSeat (arc_value s.counts) (record { holder = s.holder; kept = s.kept; makes = s.makes; splits = s.splits; claimed = s.claimed }) };
+    ghost invariant = { λ s. IsSeat (arc_value s.counts) (record { holder = s.holder; kept = s.kept; makes = s.makes; splits = s.splits; claimed = s.claimed })
+        × All (λ c. arc_value c ≡ arc_value s.counts) s.spare_counts.items };
 }
 
 impl PoolSeat {
@@ -95,6 +98,7 @@ impl PoolSeat {
         let (counts, holder) = Counts::new(alloc, l.pool)?;
         Ok(PoolSeat {
             counts: Arc::new(alloc, counts)?,
+            spare_counts: Vec::with_capacity(alloc, SPARE as usize)?,
             holder,
             kept,
             makes: Makes::NONE,
@@ -119,12 +123,14 @@ impl PoolSeat {
     {
         let kept = Kept::new(alloc, 0, 0, 0, 0)?;
         let counts = Arc::try_clone(&self.counts)?;
+        let spare_counts = Vec::with_capacity(alloc, SPARE as usize)?;
         let spare = Spare::new(alloc, SPARE, LONG)?;
         let holder = self.counts.part(&mut self.holder, claims);
         self.splits -= 1;
         let asked = if claims { self.makes.asked } else { 0 };
         Ok(PoolSeat {
             counts,
+            spare_counts,
             holder,
             kept,
             makes: Makes {
@@ -146,6 +152,7 @@ impl PoolSeat {
     {
         let PoolSeat {
             counts: _counts,
+            spare_counts: _spare_counts,
             holder,
             kept: _kept,
             makes,
@@ -181,20 +188,38 @@ impl PoolSeat {
     }
 
     /// How many pbufs of the kind it keeps: none of POOL where the counts of POOL are atomic.
+    #[inline(always)]
     pub fn kept(&self, kind: Kind) -> u32
         ensures { result ≡ length (counts_of kind self.now.kept) }
     {
         self.kept.of(kind).len() as u32
     }
 
-    /// The atomic counts, which its chains keep alive.
-    pub fn counts(&self) -> Result<Arc<Counts>, NoMemory>
-        ensures { IfOk result (λ c. arc_value c ≡ self.now.holder.table) }
+    /// The atomic counts, which its chains keep alive: a spare owner of them where there is any, else a new one.
+    #[inline(always)]
+    pub fn counts(&mut self) -> Result<Arc<Counts>, NoMemory>
+        ensures table { IfOk result (λ c. arc_value c ≡ self.old.holder.table) }
+        ensures same { self.new ≡ self.old }
     {
-        Arc::try_clone(&self.counts)
+        match self.spare_counts.pop() {
+            Some(counts) => Ok(counts),
+            None => Arc::try_clone(&self.counts),
+        }
+    }
+
+    /// Keeps an owner of the atomic counts for `counts` where there is room for it. Takes no memory.
+    #[inline(always)]
+    pub fn keep_counts(&mut self, counts: Arc<Counts>)
+        requires { arc_value counts ≡ self.old.holder.table }
+        ensures { self.new ≡ self.old }
+    {
+        if self.spare_counts.len() < self.spare_counts.capacity() {
+            self.spare_counts.push_reserved(counts);
+        }
     }
 
     /// How many pbufs of POOL have atomic counts.
+    #[inline(always)]
     pub fn counted(&self) -> u32
         ensures { result ≡ self.now.holder.table.words }
     {
@@ -202,6 +227,7 @@ impl PoolSeat {
     }
 
     /// Takes the kept pbuf at this place, where it has no owner.
+    #[inline(always)]
     pub fn take(&mut self, kind: Kind, place: u32) -> Option<Owner>
         requires there { place < length (counts_of kind self.old.kept) }
         ensures found { IsSome result ↔ (rows_of self.old.kept (record { kind = kind; place = place }) ≡ 0) }
@@ -217,7 +243,6 @@ impl PoolSeat {
             return None;
         }
         self.kept.take(kind, place);
-        self.hints.taken(kind, place);
         Some(Owner::Kept(Row {
             kind,
             place,
@@ -226,6 +251,7 @@ impl PoolSeat {
     }
 
     /// Claims the pbuf of POOL at this place, whose count is atomic, where it has no owner.
+    #[inline(always)]
     pub fn claim(&mut self, place: u32) -> Option<Owner>
         requires there { place < self.old.holder.table.words }
         requires right { self.old.holder.rights ≡ 1 }
@@ -241,19 +267,28 @@ impl PoolSeat {
         match self.counts.claim(&mut self.holder, place) {
             Claim::Got(holder) => {
                 self.claimed += 1;
-                self.hints.taken(Kind::Pool, place);
                 Some(Owner::Counted(holder))
             }
             Claim::InUse(_) => None,
         }
     }
 
-    /// Where to begin to look for a pbuf of the kind without an owner: behind the one that was taken last.
+    /// Where to begin to look for a pbuf of the kind without an owner.
+    #[inline(always)]
     pub fn first_place(&self, kind: Kind) -> u32 {
         self.hints.of(kind)
     }
 
+    /// Tells where to begin next time: behind the pbuf that was taken last.
+    #[inline(always)]
+    pub fn set_first_place(&mut self, kind: Kind, place: u32)
+        ensures { self.new ≡ self.old }
+    {
+        self.hints.set(kind, place);
+    }
+
     /// A buffer of these octets: a spare one where there is any, else a new one.
+    #[inline(always)]
     pub fn buffer(&mut self, alloc: Global, octets: &[u8]) -> Result<Vec<u8>, NoMemory>
         ensures octets { IfOk result (λ b. b.items ≡ octets.now) }
         ensures same { self.new ≡ self.old }
@@ -262,13 +297,30 @@ impl PoolSeat {
     }
 
     /// Keeps a buffer for `buffer` where there is room for it. Takes no memory.
+    #[inline(always)]
     pub fn keep_buffer(&mut self, buffer: Vec<u8>)
         ensures { self.new ≡ self.old }
     {
         self.spare.keep_buffer(buffer);
     }
 
-    /// A buffer of these octets that chains can share, likewise.
+    /// Puts the octets of a buffer where chains can share them. No octet is copied: the buffer gets other memory, with room for as many.
+    #[inline(always)]
+    pub fn share_buffer(
+        &mut self,
+        alloc: Global,
+        buffer: &mut Vec<u8>,
+    ) -> Result<Arc<Vec<u8>>, NoMemory>
+        ensures octets { IfOk result (λ b. (arc_value b).items ≡ buffer.old.items) }
+        ensures room { OnOk result (length buffer.old.items ≤ vec_capacity buffer.new) }
+        ensures err { OnErr result (buffer.new ≡ buffer.old) }
+        ensures same { self.new ≡ self.old }
+    {
+        self.spare.share(alloc, buffer)
+    }
+
+    /// A buffer of these octets that chains can share: a spare one where there is any, else a new one.
+    #[inline(always)]
     pub fn shared_buffer(&mut self, alloc: Global, octets: &[u8]) -> Result<Arc<Vec<u8>>, NoMemory>
         ensures octets { IfOk result (λ b. (arc_value b).items ≡ octets.now) }
         ensures same { self.new ≡ self.old }
@@ -277,6 +329,7 @@ impl PoolSeat {
     }
 
     /// Keeps a shared buffer for `shared_buffer` where no other chain has it. Takes no memory.
+    #[inline(always)]
     pub fn keep_shared_buffer(&mut self, buffer: Arc<Vec<u8>>)
         ensures { self.new ≡ self.old }
     {
@@ -284,6 +337,7 @@ impl PoolSeat {
     }
 
     /// An empty list with room for so many pbufs, likewise.
+    #[inline(always)]
     pub fn list(&mut self, alloc: Global, n: usize) -> Result<Vec<Pbuf>, NoMemory>
         ensures list { IfOk result (λ l. (l.items ≡ []) × (n ≤ vec_capacity l)) }
         ensures same { self.new ≡ self.old }
@@ -292,6 +346,7 @@ impl PoolSeat {
     }
 
     /// Keeps a list for `list` where there is room for it. Takes no memory.
+    #[inline(always)]
     pub fn keep_list(&mut self, list: Vec<Pbuf>)
         ensures { self.new ≡ self.old }
     {
@@ -299,6 +354,7 @@ impl PoolSeat {
     }
 
     /// Counts a make of POOL of so many octets that is made.
+    #[inline(always)]
     pub fn granted(&mut self, octets: u32)
         requires { self.old.makes.made + self.old.makes.refused < 2 ^ 64 - 1 }
         ensures counted { self.new ≡ record self.old { makes = record self.old.makes { made = self.old.makes.made + 1; asked = min (self.old.makes.asked + pbufs_of Kind.Pool octets) (2 ^ 64 - 1) }; claimed = 0 } }
@@ -310,6 +366,7 @@ impl PoolSeat {
     }
 
     /// Counts one that is refused.
+    #[inline(always)]
     pub fn denied(&mut self, octets: u32)
         requires { self.old.makes.made + self.old.makes.refused < 2 ^ 64 - 1 }
         ensures counted { self.new ≡ record self.old { makes = record self.old.makes { refused = self.old.makes.refused + 1; last_refused = octets; asked = min (self.old.makes.asked + pbufs_of Kind.Pool octets) (2 ^ 64 - 1) }; claimed = 0 } }
@@ -322,6 +379,7 @@ impl PoolSeat {
     }
 
     /// Whether the count of the owner's pbuf has room for so many owners more.
+    #[inline(always)]
     pub fn has_room(&self, owner: &Owner, more: u32) -> bool
         ensures { IsTrue result ↔ HasRoom more self.now owner.now }
     {
@@ -332,6 +390,7 @@ impl PoolSeat {
     }
 
     /// A second owner of the same pbuf, with so many of the adds left.
+    #[inline(always)]
     pub fn share(&mut self, owner: &mut Owner, adds: u32) -> Owner
         requires owner { IsOwner self.old owner.old }
         requires room { HasRoom 1 self.old owner.old }
@@ -362,6 +421,7 @@ impl PoolSeat {
     }
 
     /// Gives an owner up, and tells whether it was the pbuf's last.
+    #[inline(always)]
     pub fn give_up(&mut self, owner: Owner) -> bool
         requires owner { IsOwner self.old owner }
         ensures rows { (s : Slot) → rows_of self.new.kept s + row_of owner s ≡ rows_of self.old.kept s }
@@ -395,6 +455,7 @@ fn look_over(counts: &Counts, holder: &mut Holder) -> u32
 }
 
 // How many pbufs of POOL so many octets take.
+#[inline(always)]
 fn pool_pbufs(octets: u32) -> u64
     ensures { result ≡ pbufs_of Kind.Pool octets }
 {

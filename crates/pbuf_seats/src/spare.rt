@@ -1,9 +1,10 @@
 //! Memory for chains to come.
-ghost use Rattle.std.specs.Prelude.{◌≡◌, ◌≤◌, [], vec_capacity, IfOk};
+ghost use Rattle.std.specs.Prelude.{◌≡◌, ◌≤◌, [], length, vec_capacity, IfOk, OnOk, OnErr};
 ghost use Rattle.std.specs.Arc.{arc_value};
 
 use crate::pbuf::Pbuf;
 use std::alloc::{AllocError, Global};
+use std::mem;
 use std::sync::Arc;
 
 // A new buffer has room for so many octets at least: for those of a pbuf of POOL.
@@ -42,6 +43,7 @@ impl Spare {
     }
 
     /// A buffer of these octets: a spare one where there is any, else a new one.
+    #[inline(always)]
     pub(crate) fn buffer(&mut self, alloc: Global, octets: &[u8]) -> Result<Vec<u8>, AllocError>
         ensures { IfOk result (λ b. b.items ≡ octets.now) }
     {
@@ -60,6 +62,7 @@ impl Spare {
     }
 
     /// Keeps a buffer where there is room for it, and lets it go where there is none. Takes no memory.
+    #[inline(always)]
     pub(crate) fn keep_buffer(&mut self, buffer: Vec<u8>) {
         let capacity = buffer.capacity();
         let kept = if capacity <= SHORT {
@@ -72,7 +75,41 @@ impl Spare {
         }
     }
 
+    /// Puts the octets of a buffer where chains can share them: in a spare shared buffer where there is any, else in a new one.
+    /// The buffer changes places with that of the spare one, so that no octet is copied, and has room for as many then.
+    #[inline(always)]
+    pub(crate) fn share(
+        &mut self,
+        alloc: Global,
+        buffer: &mut Vec<u8>,
+    ) -> Result<Arc<Vec<u8>>, AllocError>
+        ensures octets { IfOk result (λ b. (arc_value b).items ≡ buffer.old.items) }
+        ensures room { OnOk result (length buffer.old.items ≤ vec_capacity buffer.new) }
+        ensures err { OnErr result (buffer.new ≡ buffer.old) }
+    {
+        if let Some(mut spare) = self.shared.pop() {
+            if let Some(octets) = Arc::get_mut(&mut spare) {
+                if octets.capacity() < buffer.len() {
+                    octets.clear();
+                    octets.reserve(buffer.len())?;
+                }
+                mem::swap(octets, buffer);
+                return Ok(spare);
+            }
+        }
+        let room = Vec::with_capacity(alloc, buffer.len().max(SMALLEST))?;
+        let octets = mem::replace(buffer, room);
+        match Arc::new(alloc, octets) {
+            Ok(shared) => Ok(shared),
+            Err(failed) => {
+                *buffer = failed.value;
+                Err(AllocError)
+            }
+        }
+    }
+
     /// A shared buffer of these octets: a spare one where there is any, else a new one.
+    #[inline(always)]
     pub(crate) fn shared(
         &mut self,
         alloc: Global,
@@ -93,6 +130,7 @@ impl Spare {
     }
 
     /// Keeps a shared buffer that nobody else has, where there is room for it. Takes no memory.
+    #[inline(always)]
     pub(crate) fn keep_shared(&mut self, mut buffer: Arc<Vec<u8>>) {
         if let Some(octets) = Arc::get_mut(&mut buffer) {
             if octets.capacity() <= SHORT && self.shared.len() < self.shared.capacity() {
@@ -102,6 +140,7 @@ impl Spare {
     }
 
     /// An empty list with room for so many pbufs: a spare one where there is any, else a new one.
+    #[inline(always)]
     pub(crate) fn list(&mut self, alloc: Global, n: usize) -> Result<Vec<Pbuf>, AllocError>
         ensures { IfOk result (λ l. (l.items ≡ []) × (n ≤ vec_capacity l)) }
     {
@@ -115,6 +154,7 @@ impl Spare {
     }
 
     /// Keeps a list where there is room for it. Takes no memory.
+    #[inline(always)]
     pub(crate) fn keep_list(&mut self, list: Vec<Pbuf>) {
         if list.capacity() <= MOST_PBUFS && self.lists.len() < self.lists.capacity() {
             self.lists.push_reserved(list);

@@ -104,10 +104,32 @@ fn a_shared_buffer_that_is_kept_serves_again(rt: HostRuntime) -> Result<(), Fail
 }
 
 #[test]
+fn octets_are_shared_without_a_copy(rt: HostRuntime) -> Result<(), Fail> {
+    let mut seat = PoolSeat::new(rt.alloc(), &SMALL, false)?;
+    let long = vec![in rt.alloc(); 7u8; 600]?;
+    let spare = seat.shared_buffer(rt.alloc(), &long)?;
+    seat.keep_shared_buffer(spare);
+    let mut buffer = seat.buffer(rt.alloc(), b"pbuf")?;
+    let first = seat.share_buffer(rt.alloc(), &mut buffer)?;
+    assert!(rt; first.as_slice() == b"pbuf".as_slice());
+    assert!(rt; first.capacity() == 512);
+    assert!(rt; buffer.capacity() >= 600);
+    buffer.clear();
+    buffer.extend_from_slice(b"more")?;
+    let second = seat.share_buffer(rt.alloc(), &mut buffer)?;
+    assert!(rt; second.as_slice() == b"more".as_slice());
+    assert!(rt; first.as_slice() == b"pbuf".as_slice());
+    Ok(())
+}
+
+#[test]
 fn a_list_that_is_kept_serves_again(rt: HostRuntime) -> Result<(), Fail> {
     let mut seat = PoolSeat::new(rt.alloc(), &SMALL, false)?;
+    let Some(owner) = seat.take(Kind::Ram, 0) else {
+        return Err(Fail::new("in use"));
+    };
     let mut first = seat.list(rt.alloc(), 9)?;
-    first.push_reserved(Pbuf::whole(seat.buffer(rt.alloc(), b"pbuf")?));
+    first.push_reserved(Pbuf { owner, len: 4 });
     seat.keep_list(first);
     let second = seat.list(rt.alloc(), 2)?;
     assert!(rt; second.is_empty());
@@ -118,11 +140,10 @@ fn a_list_that_is_kept_serves_again(rt: HostRuntime) -> Result<(), Fail> {
 }
 
 #[test]
-fn the_search_begins_behind_what_was_taken_last(rt: HostRuntime) -> Result<(), Fail> {
+fn a_search_begins_where_it_was_told(rt: HostRuntime) -> Result<(), Fail> {
     let mut seat = PoolSeat::new(rt.alloc(), &SMALL, false)?;
     assert!(rt; seat.first_place(Kind::Ram) == 0);
-    let one = seat.take(Kind::Ram, 3);
-    assert!(rt; one.is_some());
+    seat.set_first_place(Kind::Ram, 4);
     assert!(rt; seat.first_place(Kind::Ram) == 4);
     assert!(rt; seat.first_place(Kind::Rom) == 0);
     Ok(())

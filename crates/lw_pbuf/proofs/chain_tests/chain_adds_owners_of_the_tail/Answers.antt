@@ -1,5 +1,6 @@
 use Rattle.std.proofs.Common.{rules, ap, arith}
-use Rattle.lw_pbuf.specs.Chains.{ChainSeen, rows_in}
+use Rattle.pbuf_spans.specs.Parts.{rows_in}
+use Rattle.lw_pbuf.specs.Chains.{ChainSeen}
 use Rattle.lw_pbuf.proofs.Sharing.{still_of}
 use Rattle.lw_pbuf.proofs.chain_tests.chain_adds_owners_of_the_tail.Goals as goal
 

@@ -1,23 +1,25 @@
-use Rattle.std.proofs.Common.{◌≡◌, ◌-◌, refl, sym, ◌∙◌, length, arith}
-use Rattle.std.proofs.lemmas.List.{take_all}
-use Rattle.lw_pbuf.specs.Chains.{joined}
-use Rattle.lw_pbuf.proofs.Cutting.{back_first, back_next}
+use Rattle.std.proofs.Common.{rules, ◌≡◌, ◌++◌, ◌∷◌, [], refl, ◌∙◌, arith}
+use Rattle.lw_pbuf.proofs.SpanCuts.{back_first, back_less, back_next}
 use Rattle.lw_pbuf.proofs.cut.back_off.Goals as goal
 
 pub loop-left-init : goal.loop-left-init
-loop-left-init c = record { under_way = back_first _ _ _ c.requires.chain c.requires.within c.requires.listed; capacity = refl }
+loop-left-init c = record { under_way = back_first c.args.seat.now c.args.spans.now.items c.args.n (record { chain = c.requires.chain; listed = c.requires.listed }) c.requires.full; capacity = refl }
+
+pub loop-left-smaller : goal.loop-left-smaller
+loop-left-smaller c =
+    let l = c.loop-left in
+    let is : l.spans.items ≡ c.pop.new.self.items ++ c.in-Some.last ∷ [] = search rules in
+    let s = back_less c.args.seat.now l.seat c.args.spans.now.items l.spans.items c.pop.new.self.items c.in-Some.last c.args.n l.left l.invariant.under_way is c.loop-left-test.true in
+    let e = c.cut_last-left.ensures.left in
+    omega arith
 
 pub loop-left-preserved : goal.loop-left-preserved
-loop-left-preserved c = let i = c.loop-left.invariant in let e = c.cut_last-left.ensures in record {
-  under_way = back_next _ _ _ _ _ _ _ _ _ i.under_way e.octets e.count e.chain e.cut;
-  capacity = e.capacity ∙ i.capacity;
-}
-
-pub returns : goal.returns
-returns c = let i = c.loop-left.invariant in let f = i.under_way in let none : c.loop-left.left ≡ 0 = let t = c.loop-left-test.false in omega arith in record {
-  octets = sym (take_all (length (joined c.loop-left.pbufs.items) - c.loop-left.left) (joined c.loop-left.pbufs.items) (omega arith)) ∙ f.octets;
-  chain = f.chain;
-  listed = f.listed;
-  cut = f.cut;
-  capacity = i.capacity;
-}
+loop-left-preserved c =
+    let l = c.loop-left in
+    let is : l.spans.items ≡ c.pop.new.self.items ++ c.in-Some.last ∷ [] = search rules in
+    let e = c.cut_last-left.ensures in
+    record {
+      under_way = back_next c.args.seat.now l.seat c.args.spans.now.items l.spans.items c.pop.new.self.items c.in-Some.last c.args.n l.left l.invariant.under_way is
+          c.cut_last-left.new.seat c.cut_last-left.new.spans.items c.cut_last-left.result e.left (λ more. search rules) e.octets e.chain e.listed e.cut e.full e.fewer;
+      capacity = e.capacity ∙ (c.pop.ensures.capacity ∙ l.invariant.capacity);
+    }

@@ -1,32 +1,48 @@
-use Rattle.std.proofs.Common.{refl, arith}
-use Rattle.lw_pbuf.proofs.Cutting.{front_whole, first_owner}
+use Rattle.std.proofs.Common.{rules, List, length, ap, refl, arith}
+use Rattle.pbuf_spans.specs.Parts.{Part, joined}
+use Rattle.lw_pbuf.proofs.Freed.{give-few}
+use Rattle.lw_pbuf.proofs.SpanCuts.{first_span, same_first, front_part, front_whole}
 use Rattle.lw_pbuf.proofs.cut.cut_first.Goals as goal
 
+pub cut_front-requires : goal.cut_front-requires
+cut_front-requires c =
+    let r = c.requires in
+    let some = r.some in
+    let within = r.within in
+    let m = first_span c.args.seat.now c.args.spans.now.items c.index_mut.result.now (record { chain = r.chain; listed = r.listed }) (omega arith) c.index_mut.ensures.value in
+    let same = ap (λ (l : List Part). length (joined l)) (same_first c.args.spans.now.items c.index.result.now c.index_mut.result.now (omega arith) c.index.ensures c.index_mut.ensures.value) in
+    let len = c.len-len.ensures in
+    let short = c.if-n-len.true in
+    record { within = omega arith; chain = m.chain; listed = m.listed }
+
+pub returns-then-n-len : goal.returns-then-n-len
+returns-then-n-len c =
+    let r = c.requires in
+    let e = c.cut_front.ensures in
+    let some = r.some in
+    let within = r.within in
+    let same = ap (λ (l : List Part). length (joined l)) (same_first c.args.spans.now.items c.index.result.now c.index_mut.result.now (omega arith) c.index.ensures c.index_mut.ensures.value) in
+    let len = c.len-len.ensures in
+    let short = c.if-n-len.true in
+    let s = front_part c.args.seat.now c.cut_front.new.seat c.args.spans.now.items _ c.index_mut.result.now c.cut_front.new.self c.args.n (record { chain = r.chain; listed = r.listed }) r.full r.some r.within
+    c.index_mut.ensures.value (omega arith) e.octets e.chain e.cut refl in
+    record { octets = s.octets; within = s.within; less = s.less; chain = s.cuts.may.chain; full = s.full; cut = s.cuts.cut; capacity = search rules; fewer = s.fewer }
+
 pub give_up-requires : goal.give_up-requires
-give_up-requires c = let r = c.requires in let a = r.some in let b = r.within in
-    first_owner c.args.seat.now c.args.pbufs.now.items c.remove-first.result r.chain r.listed (omega arith) c.remove-first.ensures.value
+give_up-requires c =
+    let r = c.requires in
+    let some = r.some in
+    let within = r.within in
+    let m = first_span c.args.seat.now c.args.spans.now.items c.remove-first.result (record { chain = r.chain; listed = r.listed }) (omega arith) c.remove-first.ensures.value in
+    record { under = m.chain.under; listed = m.listed; few = give-few c.args.seat.now c.remove-first.result m }
 
-pub returns-clause-octets : goal.returns-clause-octets
-returns-clause-octets c = let r = c.requires in let e = c.remove-first.ensures in
-    (front_whole c.args.seat.now c.give_up.new.seat c.args.pbufs.now.items c.remove-first.new.self.items c.remove-first.result c.index.result.now _ _ _ r.chain r.some r.within e.value
-    c.index.ensures c.len-len.ensures c.if-n-len.false refl e.items c.give_up.ensures.spent).octets
-
-pub returns-clause-chain : goal.returns-clause-chain
-returns-clause-chain c = let r = c.requires in let e = c.remove-first.ensures in
-    (front_whole c.args.seat.now c.give_up.new.seat c.args.pbufs.now.items c.remove-first.new.self.items c.remove-first.result c.index.result.now _ _ _ r.chain r.some r.within e.value
-    c.index.ensures c.len-len.ensures c.if-n-len.false refl e.items c.give_up.ensures.spent).chain
-
-pub returns-clause-within : goal.returns-clause-within
-returns-clause-within c = let r = c.requires in let e = c.remove-first.ensures in
-    (front_whole c.args.seat.now c.give_up.new.seat c.args.pbufs.now.items c.remove-first.new.self.items c.remove-first.result c.index.result.now _ _ _ r.chain r.some r.within e.value
-    c.index.ensures c.len-len.ensures c.if-n-len.false refl e.items c.give_up.ensures.spent).within
-
-pub returns-clause-less : goal.returns-clause-less
-returns-clause-less c = let r = c.requires in let e = c.remove-first.ensures in
-    (front_whole c.args.seat.now c.give_up.new.seat c.args.pbufs.now.items c.remove-first.new.self.items c.remove-first.result c.index.result.now _ _ _ r.chain r.some r.within e.value
-    c.index.ensures c.len-len.ensures c.if-n-len.false refl e.items c.give_up.ensures.spent).less
-
-pub returns-clause-cut : goal.returns-clause-cut
-returns-clause-cut c = let r = c.requires in let e = c.remove-first.ensures in
-    (front_whole c.args.seat.now c.give_up.new.seat c.args.pbufs.now.items c.remove-first.new.self.items c.remove-first.result c.index.result.now _ _ _ r.chain r.some r.within e.value
-    c.index.ensures c.len-len.ensures c.if-n-len.false refl e.items c.give_up.ensures.spent).cut
+pub returns : goal.returns
+returns c =
+    let r = c.requires in
+    let some = r.some in
+    let within = r.within in
+    let same = ap (λ (l : List Part). length (joined l)) (same_first c.args.spans.now.items c.index.result.now c.remove-first.result (omega arith) c.index.ensures c.remove-first.ensures.value) in
+    let len = c.len-len.ensures in
+    let s = front_whole c.args.seat.now c.give_up.new.seat c.args.spans.now.items c.remove-first.new.self.items c.remove-first.result c.args.n c.len-len.result _ (record { chain = r.chain; listed = r.listed }) r.full r.some r.within
+    c.remove-first.ensures.value (omega arith) c.if-n-len.false refl c.remove-first.ensures.items c.give_up.ensures.spent in
+    record { octets = s.octets; within = s.within; less = s.less; chain = s.cuts.may.chain; full = s.full; cut = s.cuts.cut; capacity = search rules; fewer = s.fewer }

@@ -1,37 +1,56 @@
-use Rattle.std.proofs.Common.{ℕ, ◌-◌, take, ◌∙◌, ap, refl, arith}
-use Rattle.lw_pbuf.proofs.Cutting.{back_part, back_whole, last_owner}
+use Rattle.std.proofs.Common.{◌<◌, length, refl, arith}
+use Rattle.pbuf_spans.specs.Parts.{joined}
+use Rattle.lw_pbuf.specs.Chains.{all_parts}
+use Rattle.lw_pbuf.proofs.Freed.{give-back, give-few}
+use Rattle.lw_pbuf.proofs.SpanCuts.{back_part, back_whole}
 use Rattle.lw_pbuf.proofs.cut.cut_last.Goals as goal
 
+pub cut_back-requires : goal.cut_back-requires
+cut_back-requires c =
+    let r = c.requires in
+    let m = give-back c.args.seat.now (all_parts c.args.spans.now.items) c.args.last (record { chain = r.chain; listed = r.listed }) in
+    record { within = let len = c.len-len.ensures in let short = c.if-n-len.true in omega arith; chain = m.chain; listed = m.listed }
+
+pub returns-then-n-len : goal.returns-then-n-len
+returns-then-n-len c =
+    let r = c.requires in
+    let e = c.cut_back.ensures in
+    let len = c.len-len.ensures in
+    let test = c.if-n-len.true in
+    let short : c.args.n < length (joined c.args.last) = omega arith in
+    let s = back_part c.args.seat.now c.cut_back.new.seat c.args.spans.now.items c.push_reserved.new.self.items c.args.last c.cut_back.new.self c.args.n (record { chain = r.chain; listed = r.listed }) r.full short
+    e.octets e.chain e.cut c.push_reserved.ensures.items in
+    record {
+      left = omega arith;
+      octets = s.octets;
+      same = λ more. absurd (omega arith);
+      chain = s.cuts.may.chain;
+      full = s.full;
+      listed = s.cuts.may.listed;
+      cut = s.cuts.cut;
+      capacity = c.push_reserved.ensures.capacity;
+      fewer = s.fewer;
+    }
+
 pub give_up-requires : goal.give_up-requires
-give_up-requires c = let r = c.requires in last_owner c.args.seat.now c.args.pbufs.now.items c.pop.new.self.items c.in-Some.last r.chain r.listed c.in-Some.ensures.items
+give_up-requires c =
+    let r = c.requires in
+    let m = give-back c.args.seat.now (all_parts c.args.spans.now.items) c.args.last (record { chain = r.chain; listed = r.listed }) in
+    record { under = m.chain.under; listed = m.listed; few = give-few c.args.seat.now c.args.last m }
 
-pub returns-then-len-n-clause-octets : goal.returns-then-len-n-clause-octets
-returns-then-len-n-clause-octets c = let r = c.requires in (back_part c.args.seat.now c.args.pbufs.now.items c.pop.new.self.items c.push_reserved.new.self.items c.in-Some.last c.keep_front.new.self _ r.chain r.some c.in-Some.ensures.items
-    (let l = c.len-len.ensures in let b = c.if-len-n.true in omega arith) (c.keep_front.ensures ∙ ap (λ (m : ℕ). record { owner = c.in-Some.last.owner; octets = take (m - c.args.n) c.in-Some.last.octets; own = c.in-Some.last.own }) c.len-len.ensures) c.push_reserved.ensures.items).octets
-
-pub returns-then-len-n-clause-count : goal.returns-then-len-n-clause-count
-returns-then-len-n-clause-count c = let r = c.requires in (back_part c.args.seat.now c.args.pbufs.now.items c.pop.new.self.items c.push_reserved.new.self.items c.in-Some.last c.keep_front.new.self _ r.chain r.some c.in-Some.ensures.items
-    (let l = c.len-len.ensures in let b = c.if-len-n.true in omega arith) (c.keep_front.ensures ∙ ap (λ (m : ℕ). record { owner = c.in-Some.last.owner; octets = take (m - c.args.n) c.in-Some.last.octets; own = c.in-Some.last.own }) c.len-len.ensures) c.push_reserved.ensures.items).count
-
-pub returns-then-len-n-clause-chain : goal.returns-then-len-n-clause-chain
-returns-then-len-n-clause-chain c = let r = c.requires in (back_part c.args.seat.now c.args.pbufs.now.items c.pop.new.self.items c.push_reserved.new.self.items c.in-Some.last c.keep_front.new.self _ r.chain r.some c.in-Some.ensures.items
-    (let l = c.len-len.ensures in let b = c.if-len-n.true in omega arith) (c.keep_front.ensures ∙ ap (λ (m : ℕ). record { owner = c.in-Some.last.owner; octets = take (m - c.args.n) c.in-Some.last.octets; own = c.in-Some.last.own }) c.len-len.ensures) c.push_reserved.ensures.items).chain
-
-pub returns-then-len-n-clause-cut : goal.returns-then-len-n-clause-cut
-returns-then-len-n-clause-cut c = let r = c.requires in (back_part c.args.seat.now c.args.pbufs.now.items c.pop.new.self.items c.push_reserved.new.self.items c.in-Some.last c.keep_front.new.self _ r.chain r.some c.in-Some.ensures.items
-    (let l = c.len-len.ensures in let b = c.if-len-n.true in omega arith) (c.keep_front.ensures ∙ ap (λ (m : ℕ). record { owner = c.in-Some.last.owner; octets = take (m - c.args.n) c.in-Some.last.octets; own = c.in-Some.last.own }) c.len-len.ensures) c.push_reserved.ensures.items).cut
-
-pub returns-clause-octets : goal.returns-clause-octets
-returns-clause-octets c = let r = c.requires in let s = r.some in (back_whole c.args.seat.now c.give_up.new.seat c.args.pbufs.now.items c.pop.new.self.items c.in-Some.last _ _ _ r.chain r.within c.in-Some.ensures.items c.len-len.ensures c.if-len-n.false refl c.give_up.ensures.spent).octets
-
-pub returns-clause-count : goal.returns-clause-count
-returns-clause-count c = let r = c.requires in let s = r.some in (back_whole c.args.seat.now c.give_up.new.seat c.args.pbufs.now.items c.pop.new.self.items c.in-Some.last _ _ _ r.chain r.within c.in-Some.ensures.items c.len-len.ensures c.if-len-n.false refl c.give_up.ensures.spent).count
-
-pub returns-clause-less : goal.returns-clause-less
-returns-clause-less c = let r = c.requires in let s = r.some in (back_whole c.args.seat.now c.give_up.new.seat c.args.pbufs.now.items c.pop.new.self.items c.in-Some.last _ _ _ r.chain r.within c.in-Some.ensures.items c.len-len.ensures c.if-len-n.false refl c.give_up.ensures.spent).less
-
-pub returns-clause-chain : goal.returns-clause-chain
-returns-clause-chain c = let r = c.requires in let s = r.some in (back_whole c.args.seat.now c.give_up.new.seat c.args.pbufs.now.items c.pop.new.self.items c.in-Some.last _ _ _ r.chain r.within c.in-Some.ensures.items c.len-len.ensures c.if-len-n.false refl c.give_up.ensures.spent).chain
-
-pub returns-clause-cut : goal.returns-clause-cut
-returns-clause-cut c = let r = c.requires in let s = r.some in (back_whole c.args.seat.now c.give_up.new.seat c.args.pbufs.now.items c.pop.new.self.items c.in-Some.last _ _ _ r.chain r.within c.in-Some.ensures.items c.len-len.ensures c.if-len-n.false refl c.give_up.ensures.spent).cut
+pub returns : goal.returns
+returns c =
+    let r = c.requires in
+    let len = c.len-len.ensures in
+    let s = back_whole c.args.seat.now c.give_up.new.seat c.args.spans.now.items c.args.last c.args.n c.len-len.result _ (record { chain = r.chain; listed = r.listed }) r.full len c.if-n-len.false refl c.give_up.ensures.spent in
+    record {
+      left = omega arith;
+      octets = s.octets;
+      same = λ more. refl;
+      chain = s.cuts.may.chain;
+      full = s.full;
+      listed = s.cuts.may.listed;
+      cut = s.cuts.cut;
+      capacity = refl;
+      fewer = s.fewer;
+    }

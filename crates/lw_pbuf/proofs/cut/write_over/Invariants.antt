@@ -1,5 +1,5 @@
 use Rattle.lw_pbuf.proofs.Rewriting.{Writes}
 use Rattle.lw_pbuf.proofs.cut.write_over.Given as goal
 
-abbrev pub invariant-loop-pbuf : goal.invariant-loop-pbuf
-invariant-loop-pbuf l = Writes l.fn.pbufs l.pbufs l.pbuf-index l.octets l.rest
+abbrev pub invariant-loop-span : goal.invariant-loop-span
+invariant-loop-span l = Writes l.fn.spans l.spans l.span-index l.octets l.rest

@@ -1,69 +1,77 @@
-use Rattle.std.proofs.Common.{◌≤◌, ◌<◌, List, length, length-take, take, refl, ap, sym, ◌∙◌, subst, arith, All}
+use Rattle.std.proofs.Common.{rules, ◌≡◌, ℕ, List, length, All, true, refl, sym, ap, ◌∙◌, subst, arith}
 use Rattle.std.specs.Arc.{arc_value}
 use Rattle.atomic_table.specs.Seated.{TableId}
-use Rattle.pbuf_seats.specs.Parts.{Part}
+use Rattle.lw_payload.specs.Views.{pbufs_of}
+use Rattle.pbuf_seats.specs.declared.owner.Owner.{Owner}
 use Rattle.pbuf_seats.specs.Seats.{SeatSeen}
-use Rattle.lw_pbuf.specs.Chains.{joined, all_own, IsUnder, IsChain, IsSpent}
-use Rattle.lw_pbuf.specs.Takes.{GivesBack}
-use Rattle.lw_pbuf.proofs.Taken.{same_joined, same_own, same_some, same_count}
-use Rattle.lw_pbuf.proofs.Made.{filled, all_taken, alloc_made, alloc_denied}
+use Rattle.pbuf_spans.specs.Parts.{Part, IsUnder, IsChain, GivesBack}
+use Rattle.pbuf_spans.specs.Spans.{parts_of}
+use Rattle.lw_pbuf.specs.Takes.{AreTaken}
+use Rattle.lw_pbuf.specs.Makes.{granted_of, denied_of}
+use Rattle.pbuf_spans.proofs.Cutting.{all_spent}
+use Rattle.pbuf_spans.proofs.Spans.{length-parts_of, joined_all, owners_held, rows_in-parts_of}
+use Rattle.lw_pbuf.proofs.Bodies.{parts_of-own, parts_of-some}
+use Rattle.lw_pbuf.proofs.Made.{alloc_made, alloc_denied}
 use Rattle.lw_pbuf.proofs.make.chain_of.Goals as goal
 
-pub of-requires : goal.of-requires
-of-requires c =
-    let ps = c.args.pbufs.items in
-    let v = c.as_mut_slice.ensures.value in
-    let l = c.as_mut_slice.ensures.len in
-    let f = c.fill-taken.ensures in
-    let a = c.as_mut_slice.result.now in
-    let qs = c.fill-taken.new.pbufs in
-    let n = same_count a qs f.same in
-    let m = c.len.ensures in
-    let all : length qs ≤ c.fill-taken.result = let t = c.if-taken-len.true in omega arith in
-    let taken = all_taken c.args.seat.now c.fill-taken.new.seat c.args.kind qs c.fill-taken.result f.taken all in
-    subst (λ (x : List Part). IsChain (arc_value c.args.counts) x) (sym (filled c.args.pbufs.len ps a qs v l f.same)) record {
-      under = subst (λ (u : TableId). All (λ p. IsUnder u p.owner) qs) (sym c.requires.table) taken.under;
-      some = same_some a qs f.same (subst (λ (x : List Part). All (λ p. 0 < length p.octets) x) (sym v) c.requires.some);
-      short = let e = ap length (same_joined a qs f.same ∙ (ap joined v ∙ c.requires.octets)) in let q = c.requires.small in omega arith;
+pub of-requires-then-fill-clause-chain : goal.of-requires-then-fill-clause-chain
+of-requires-then-fill-clause-chain c =
+    let body = c.args.body.items in
+    let ps = c.fill.new.pbufs.items in
+    let text = c.as_slice.ensures.value in
+    let taken = subst (λ (x : List ℕ). AreTaken c.args.seat.now c.fill.new.seat c.args.kind (parts_of true x ps)) text c.fill.ensures.taken in
+    let exact = (c.fill.ensures.all c.if-fill.true).0 in
+    let long = ap length text in
+    let small = c.requires.small in
+    subst (λ (x : List Part). IsChain (arc_value c.args.counts) x) (sym c.of.ensures) record {
+      under = subst (λ (u : TableId). All (λ p. IsUnder u p.owner) (parts_of true body ps)) (sym c.requires.table) taken.under;
+      some = parts_of-some true body ps c.fill.ensures.some (omega arith);
+      short = let e = ap length (joined_all true body ps (omega arith)) in omega arith;
     }
 
-pub returns-then-taken-len-clause-made : goal.returns-then-taken-len-clause-made
-returns-then-taken-len-clause-made c =
-    let ps = c.args.pbufs.items in
-    let v = c.as_mut_slice.ensures.value in
-    let l = c.as_mut_slice.ensures.len in
-    let f = c.fill-taken.ensures in
+pub returns-then-fill-clause-made : goal.returns-then-fill-clause-made
+returns-then-fill-clause-made c =
+    let body = c.args.body.items in
+    let ps = c.fill.new.pbufs.items in
+    let text = c.as_slice.ensures.value in
+    let taken = subst (λ (x : List ℕ). AreTaken c.args.seat.now c.fill.new.seat c.args.kind (parts_of true x ps)) text c.fill.ensures.taken in
+    let all = c.fill.ensures.all c.if-fill.true in
+    let exact = all.0 in
+    let count = all.1 in
+    let long = ap length text in
     let g = c.granted.ensures in
-    let a = c.as_mut_slice.result.now in
-    let qs = c.fill-taken.new.pbufs in
-    let n = same_count a qs f.same in
-    let m = c.len.ensures in
-    let all : length qs ≤ c.fill-taken.result = let t = c.if-taken-len.true in omega arith in
-    let taken = all_taken c.args.seat.now c.fill-taken.new.seat c.args.kind qs c.fill-taken.result f.taken all in
-    alloc_made c.args.seat.now c.fill-taken.new.seat c.granted.new.seat c.args.kind qs taken g.same c.of.result c.args.octets.now (c.of.ensures.parts ∙ filled c.args.pbufs.len ps a qs v l f.same) (c.of.ensures.table ∙ c.requires.table)
-    (same_own a qs f.same ∙ (ap all_own v ∙ c.requires.own)) (same_joined a qs f.same ∙ (ap joined v ∙ c.requires.octets)) (n ∙ (ap (λ (x : List Part). length x) v ∙ c.requires.few)) g.makes
+    let len : c.len-octets.result ≡ length body = search rules in
+    alloc_made c.args.seat.now c.fill.new.seat c.granted.new.seat c.args.kind (parts_of true body ps) taken g.same c.of-then-fill.result body (c.of-then-fill.ensures.parts ∙ c.of.ensures) (c.of-then-fill.ensures.table ∙ c.requires.table)
+    (parts_of-own body ps) (joined_all true body ps (omega arith)) (length-parts_of true body ps ∙ (count ∙ ap (λ (t : List ℕ). pbufs_of c.args.kind (length t)) text))
+    (g.makes ∙ ap (λ (n : ℕ). granted_of c.args.kind n c.fill.new.seat.makes) len)
+
+pub give_up_all-requires-clause-under : goal.give_up_all-requires-clause-under
+give_up_all-requires-clause-under c =
+    let taken = c.fill.ensures.taken in
+    owners_held (λ (o : Owner). IsUnder c.fill.new.seat.holder.table o) true c.as_slice.result.now c.fill.new.pbufs.items
+    (subst (λ (u : TableId). All (λ p. IsUnder u p.owner) (parts_of true c.as_slice.result.now c.fill.new.pbufs.items)) (sym taken.gives.table) taken.under)
+
+pub give_up_all-requires-clause-listed : goal.give_up_all-requires-clause-listed
+give_up_all-requires-clause-listed c = λ s.
+    let more = c.fill.ensures.taken.gives.more s in
+    let same = rows_in-parts_of true c.as_slice.result.now c.fill.new.pbufs.items s in
+    omega arith
 
 pub returns-clause-empty : goal.returns-clause-empty
 returns-clause-empty c =
-    let ps = c.args.pbufs.items in
-    let v = c.as_mut_slice.ensures.value in
-    let l = c.as_mut_slice.ensures.len in
-    let f = c.fill-taken.ensures in
+    let ps = c.fill.new.pbufs.items in
+    let text = c.as_slice.result.now in
+    let k = c.fill.new.seat in
     let g = c.denied.ensures in
-    let e = c.free_all.ensures in
-    let a = c.as_mut_slice.result.now in
-    let qs = c.fill-taken.new.pbufs in
-    let i = c.fill-taken.result in
-    let k = c.fill-taken.new.seat in
-    let n = same_count a qs f.same in
-    let m = c.len.ensures in
-    let within = f.within in
-    let few : i < length a = let t = c.if-taken-len.false in omega arith in
-    let left = c.keep_from.ensures.first ∙ ap (take i) (filled c.args.pbufs.len ps a qs v l f.same) in
-    let spent = subst (λ (x : SeatSeen). IsSpent x c.free_all.new.seat (take i qs)) c.keep_from.ensures.same (subst (λ (x : List Part). IsSpent c.keep_from.new.seat c.free_all.new.seat x) left e.spent) in
-    let back = subst (λ (x : SeatSeen). GivesBack x.holder c.free_all.new.seat.holder) c.keep_from.ensures.same e.back in
-    let all = ap (λ (x : List Part). length x) v ∙ c.requires.few in
-    let short = length-take i qs in (
+    let len : c.len-octets.result ≡ length c.args.body.items = search rules in
+    let kept : c.keep_counts.new.self ≡ c.give_up_all.new.seat = search rules in
+    let spent = all_spent k c.give_up_all.new.seat c.keep_counts.new.self true text ps (parts_of true text ps) refl c.give_up_all.ensures.spent kept in
+    let back = subst (λ (x : SeatSeen). GivesBack k.holder x.holder) (sym kept) c.give_up_all.ensures.back in
+    let tried = c.fill.ensures.tried c.if-fill.false in
+    let few = tried.1 in
+    let parts = length-parts_of true text ps in
+    let needed = ap (λ (t : List ℕ). pbufs_of c.args.kind (length t)) c.as_slice.ensures.value in (
       refl,
-      alloc_denied c.args.seat.now k c.free_all.new.seat c.denied.new.seat c.args.kind (take i qs) (length c.args.octets.now) f.taken spent g.same (f.all few) back (omega arith) g.makes,
+      alloc_denied c.args.seat.now k c.keep_counts.new.self c.denied.new.seat c.args.kind (parts_of true text ps) (length c.args.body.items) c.fill.ensures.taken spent g.same tried.0 back (omega arith)
+          (g.makes ∙ ap (λ (n : ℕ). denied_of c.args.kind n c.keep_counts.new.self.makes) len),
     )

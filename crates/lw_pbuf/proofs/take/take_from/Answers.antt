@@ -6,7 +6,7 @@ use Rattle.lw_pbuf.proofs.take.take_from.Goals as goal
 
 pub returns-in-Some-clause-tried : goal.returns-in-Some-clause-tried
 returns-in-Some-clause-tried c =
-    let n : c.from-places.result ≡ places_of c.args.seat.now c.args.kind = search rules in
+    let n : c.args.places ≡ places_of c.args.seat.now c.args.kind = c.requires.places in
     let g = c.in-Some.ensures.some.gives in
     let e = c.place_of-place.ensures in
     tried_more c.args.seat.now c.loop-turn.seat c.take_at.new.seat c.args.kind (places_of c.args.seat.now c.args.kind) c.args.turn.now c.loop-turn.turn (c.loop-turn.turn + 1) c.place_of-place.result c.loop-turn.invariant.tried c.take_at.ensures.tried
@@ -14,7 +14,7 @@ returns-in-Some-clause-tried c =
 
 pub loop-turn-preserved : goal.loop-turn-preserved
 loop-turn-preserved c =
-    let n : c.from-places.result ≡ places_of c.args.seat.now c.args.kind = search rules in
+    let n : c.args.places ≡ places_of c.args.seat.now c.args.kind = c.requires.places in
     let none : GivesNone c.loop-turn.seat c.take_at.new.seat = search rules in
     let e = c.place_of-place.ensures in
     let i = c.loop-turn.invariant in

@@ -1,7 +1,6 @@
 use Rattle.std.proofs.Common.{rules, ap, sym, ◌∙◌, List, true, arith}
 use Rattle.lw_payload.specs.declared.kinds.Kind.{Kind}
-use Rattle.pbuf_seats.specs.Parts.{Part}
-use Rattle.lw_pbuf.specs.Chains.{rows_in}
+use Rattle.pbuf_spans.specs.Parts.{Part, rows_in}
 use Rattle.lw_pbuf.specs.Takes.{is_counted}
 use Rattle.lw_pbuf.proofs.Homes.{rows_seconds}
 use Rattle.lw_pbuf.proofs.Threads.{no_rows}

@@ -1,6 +1,5 @@
 use Rattle.std.proofs.Common.{false, ℕ, List, length, ap, arith}
-use Rattle.pbuf_seats.specs.Parts.{Part}
-use Rattle.lw_pbuf.specs.Chains.{joined}
+use Rattle.pbuf_spans.specs.Parts.{Part, joined}
 use Rattle.lw_pbuf.proofs.Homes.{joined_seconds}
 use Rattle.lw_pbuf.proofs.Sharing.{is_chained}
 use Rattle.lw_pbuf.proofs.chain.Chain.chain.Goals as goal

@@ -1,5 +1,5 @@
 use Rattle.std.proofs.Common.{◌∙◌, ◌++◌, ℕ, List, length, take, ap, arith, take-append-drop, length-drop}
-use Rattle.lw_pbuf.specs.Chains.{joined}
+use Rattle.pbuf_spans.specs.Parts.{joined}
 use Rattle.lw_pbuf.proofs.chain.Chain.header.Goals as goal
 
 pub returns-clause-behind : goal.returns-clause-behind

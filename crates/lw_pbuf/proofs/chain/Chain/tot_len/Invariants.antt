@@ -1,13 +1,7 @@
-use Rattle.std.proofs.Common.{◌≡◌, ◌<◌, ◌≤◌, length, drop}
-use Rattle.lw_pbuf.specs.Chains.{joined}
+use Rattle.std.proofs.Common.{◌≡◌, ◌+◌, length, drop}
+use Rattle.pbuf_spans.specs.Parts.{joined}
+use Rattle.lw_pbuf.specs.Chains.{all_parts}
 use Rattle.lw_pbuf.proofs.chain.Chain.tot_len.Given as goal
 
-abbrev pub invariant-loop-at : goal.invariant-loop-at
-invariant-loop-at l = record {
-  within : l.at ≤ length l.self-inside.pbufs.items;
-  behind : l.total ≡ length (joined (drop l.at l.self-inside.pbufs.items));
-  from : l.at < l.i → length l.self-inside.pbufs.items ≤ l.at;
-}
-
-abbrev pub decreases-loop-at : goal.decreases-loop-at
-decreases-loop-at l = l.at
+abbrev pub invariant-loop-span : goal.invariant-loop-span
+invariant-loop-span l = l.total + length (joined (drop l.skip (all_parts (drop l.span-index l.span-items)))) ≡ length (joined (drop l.i l.self.parts))

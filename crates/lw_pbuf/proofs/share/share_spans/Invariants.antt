@@ -1,0 +1,10 @@
+use Rattle.std.proofs.Common.{◌≡◌}
+use Rattle.std.specs.Prelude.{vec_capacity}
+use Rattle.lw_pbuf.proofs.Sharing.{Spanned}
+use Rattle.lw_pbuf.proofs.share.share_spans.Given as goal
+
+abbrev pub invariant-loop-twin : goal.invariant-loop-twin
+invariant-loop-twin l = record {
+  spanned : Spanned l.hands l.fn.seat l.seat l.fn.spans l.spans l.others.items l.twin-iterator.rest.items l.i;
+  capacity : vec_capacity l.others ≡ vec_capacity l.fn.others;
+}

@@ -1,0 +1,6 @@
+pub mod Cutting
+pub mod Lists
+pub mod Owning
+pub mod Rewriting
+pub mod Sharing
+pub mod Spans
