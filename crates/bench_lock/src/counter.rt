@@ -1,5 +1,5 @@
 //! A number to which calls add.
-ghost use Rattle.std.specs.Prelude.{◌≡◌, ℕ, ◌+◌, ◌%◌, ◌^◌};
+ghost use Rattle.std.specs.Prelude.{◌≡◌, ℕ, ◌+◌, ◌%◌, ◌^◌, refl};
 
 use hist_lock::{NoMemory, Serial};
 
@@ -33,9 +33,13 @@ impl Serial for Counter {
 
     ghost by = { λ e. e.by };
 
-    ghost tells = { λ e amount _. e.amount ≡ amount };
+    ghost same = { λ amount back. back ≡ amount };
+
+    ghost tells = { λ _ e amount _. e.amount ≡ amount };
 
     ghost steps = { λ before e after. after ≡ (before + e.amount) % 2 ^ 64 };
+
+    ghost itself = { λ _. refl };
 
     fn step(&mut self, actor: u32, ev: u64) -> Result<(Addition, u64), (NoMemory, u64)> {
         self.total = self.total.wrapping_add(ev);

@@ -51,7 +51,7 @@ module _ {O E S T : Type 0} (state : O → S) (tag : O → T) (by : E → ℕ) (
         hears = ([], refl);
         line = tt;
         heavy = omega arith;
-        owns = All-cons (Owns by [] 1) no_part [] record { saw = ([], refl); made = refl; first = λ _. refl } (All-nil (Owns by [] 1));
+        owns = All-cons (Owns by [] 1) no_part [] record { saw = ([], refl); own = refl; made = refl; first = λ _. refl } (All-nil (Owns by [] 1));
       }
       at_first (suc i) v e = absurd (some-ne-none v (sym e))
 

@@ -146,6 +146,7 @@ module _ {O E S T : Type 0} (state : O → S) (tag : O → T) (by : E → ℕ) (
     heavy = k.heavy;
     owns = λ i d h. let o = k.owns i d h in let p : Part E = get_or x.parts i d in record {
       saw = subst (IsPrefix p.seen) (sym g.1) (prefix_more p.seen log g.0 o.saw);
+      own = o.own;
       made = o.made ∙ sym (made_by-others by p.number n log log' (absent i d h) g);
       first = o.first;
     };

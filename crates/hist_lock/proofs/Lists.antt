@@ -1,5 +1,5 @@
 -- Histories, parts of them, and the entries of one caller.
-use Rattle.std.proofs.Common.{◌≡◌, ◌≢◌, ℕ, suc, ◌+◌, ◌≤◌, eqb, ltb, cond, All, count_by, map, List, [], ◌∷◌, ◌++◌, length, sym, refl, ap, ◌∙◌, subst, arith, append_assoc, append-nil, ne_eqb, eq-eqb, Bool, true, false, ◌==◌}
+use Rattle.std.proofs.Common.{◌≡◌, ◌≢◌, ℕ, suc, ◌+◌, ◌≤◌, eqb, ltb, cond, All, count_by, map, List, [], ◌∷◌, ◌++◌, length, sym, refl, ap, ◌∙◌, subst, arith, append_assoc, append-nil, length-append, ne_eqb, eq-eqb, Bool, true, false, ◌==◌}
 use Rattle.std.proofs.lemmas.List.Sums.{sum_by-cons}
 use Rattle.std.proofs.lemmas.List.Elements.{All-nil, All-cons, All-head, All-tail, filter-append}
 use Rattle.std.proofs.lemmas.Bool.Decides.{nat_tests}
@@ -42,6 +42,10 @@ module _ {E : Type 0} where
         (λ h. let t : ltb (length xs) (length ys) ≡ false = grind (arith, nat_tests) in
         subst (λ (b : Bool). let z : List E = cond b ys xs in IsPrefix z l × IsPrefix xs z × IsPrefix ys z) (sym t) (p, prefix_same xs xs refl, prefix_shorter ys xs l q p (omega arith)))
 
+  no-elements : (xs : List E) → length xs ≡ 0 → xs ≡ []
+  no-elements [] h = refl
+  no-elements (x ∷ xs) h = absurd (omega arith)
+
   module _ (by : E → ℕ) where
     -- a history has no entry of a caller that is not in it
     pub made_by-none : (n : ℕ) (log : List E) → All (λ e. by e ≢ n) log → made_by by n log ≡ []
@@ -54,11 +58,28 @@ module _ {E : Type 0} where
     made_by-others n m xs ys other g = let none : made_by by n g.0 ≡ [] = made_by-none n g.0 (λ k d h e. other (sym e ∙ g.2 k d h)) in
         ap (made_by by n) g.1 ∙ (filter-append (λ e. by e == n) xs g.0 ∙ (ap (λ (l : List E). made_by by n xs ++ l) none ∙ append-nil (made_by by n xs)))
 
+    -- where two beginnings of a history have the same entries of a caller, one between them has too
+    pub made_by-between : (n : ℕ) (xs ys zs : List E) → IsPrefix xs ys → IsPrefix ys zs → made_by by n xs ≡ made_by by n zs → made_by by n xs ≡ made_by by n ys
+    made_by-between n xs ys zs p q e = let a : made_by by n ys ≡ made_by by n xs ++ made_by by n p.0 = ap (made_by by n) (sym p.1) ∙ filter-append (λ e. by e == n) xs p.0 in
+        let b : made_by by n zs ≡ made_by by n ys ++ made_by by n q.0 = ap (made_by by n) (sym q.1) ∙ filter-append (λ e. by e == n) ys q.0 in
+        let c : made_by by n ys ++ made_by by n q.0 ≡ made_by by n xs = sym b ∙ sym e in
+        let none : length (made_by by n p.0) ≡ 0 = let la = ap length a in let lc = ap length c in omega (arith, length-append (made_by by n xs) (made_by by n p.0), length-append (made_by by n ys) (made_by by n q.0)) in
+        sym (a ∙ (ap (λ (l : List E). made_by by n xs ++ l) (no-elements (made_by by n p.0) none) ∙ append-nil (made_by by n xs)))
+
+    pub made_by-begin : (n : ℕ) (xs ys : List E) → IsPrefix xs ys → made_by by n ys ≡ [] → made_by by n xs ≡ []
+    made_by-begin n xs ys p e = let a : made_by by n xs ++ made_by by n p.0 ≡ [] = sym (filter-append (λ e. by e == n) xs p.0) ∙ (ap (made_by by n) p.1 ∙ e) in
+        no-elements (made_by by n xs) (let la = ap length a in omega (arith, length-append (made_by by n xs) (made_by by n p.0)))
+
     pub made_by-one : (n : ℕ) (xs : List E) (e : E) → by e ≡ n → made_by by n (xs ++ e ∷ []) ≡ made_by by n xs ++ e ∷ []
     made_by-one n xs e is = let t : eqb (by e) n ≡ true = eq-eqb (by e) n is in
         filter-append (λ e. by e == n) xs (e ∷ []) ∙ ap (λ (b : Bool). made_by by n xs ++ cond b (e ∷ []) []) t
 
   module _ {S : Type 0} (steps : S → E → S → Type 0) where
+    -- a beginning of a legal history is legal
+    pub Legal-begin : (s t : S) (xs ys : List E) → Legal steps s (xs ++ ys) t → (u : S) × Legal steps s xs u
+    Legal-begin s t [] ys h = (s, refl)
+    Legal-begin s t (x ∷ xs) ys h = let rest = Legal-begin h.0 t xs ys h.2 in (rest.0, (h.0, h.1, rest.1))
+
     pub Legal-push : (s t u : S) (xs : List E) (e : E) → Legal steps s xs t → steps t e u → Legal steps s (xs ++ e ∷ []) u
     Legal-push s t u [] e h g = (u, subst (λ (z : S). steps z e u) (sym h) g, refl)
     Legal-push s t u (x ∷ xs) e h g = (h.0, h.1, Legal-push h.0 t u xs e h.2 g)

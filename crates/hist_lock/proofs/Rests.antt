@@ -67,11 +67,11 @@ module _ {O E : Type 0} where
         → (l : List E) × (m' ≡ (alone (Some start) Idle (record p { seen = l }), [])) × (found ≡ length l) × Sees state by steps start p l
     counted_is start found p m m' e d = let h = subst (λ (x : Sat O E). counted state by steps (step 0 2 0 0 none) x found m') e d in (h.0.0, (λ i. (h.0.1 i, h.1 i)), h.0.2, h.0.3)
 
+    pub heard_is : (start : O) (p : Part E) (told : List E) (m : Sat O E) (found : ℕ) (m' : Sat O E) → m ≡ (informed (alone (Some start) Idle p) (record spent { told = told }), []) → heard state by steps (step 0 0 0 0 none) m found m'
+        → let both : List E = longer p.seen told in (m' ≡ (alone (Some start) Idle (record p { seen = both }), [])) × IsPrefix told both × Sees state by steps start p both
+    heard_is start p told m found m' e d = let h = subst (λ (x : Sat O E). heard state by steps (step 0 0 0 0 none) x found m') e d in ((λ i. (h.0.0 i, h.1 i)), h.0.1, h.0.2)
+
   -- a caller that was told what another had seen
   module _ (o : Option O) (p : Part E) (told : List E) (m : Sat O E) where
     pub informed_is : (v w : View O E) (c : List (ℕ × Option (Held O E))) → ◌≡◌ {A = Sat O E} (v, c) (alone o Idle p, []) → w.told ≡ told → m ≡ (informed v w, c) → m ≡ (informed (alone o Idle p) (record spent { told = told }), [])
     informed_is v w c e t d = d ∙ (λ i. (informed (e i).0 (record spent { told = t i }), (e i).1))
-
-    pub heard_is : (found : ℕ) (m' : Sat O E) → m ≡ (informed (alone o Idle p) (record spent { told = told }), []) → heard (step 0 0 0 0 none) m found m'
-        → let both : List E = longer p.seen told in (m' ≡ (alone o Idle (record p { seen = both }), [])) × IsPrefix p.seen both × IsPrefix told both
-    heard_is found m' e d = let h = subst (λ (x : Sat O E). heard (step 0 0 0 0 none) x found m') e d in ((λ i. (h.0.0 i, h.1 i)), h.0.1, h.0.2)

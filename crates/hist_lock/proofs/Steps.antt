@@ -15,12 +15,12 @@ use Rattle.hist_lock.specs.declared.table.Held.{Held}
 use Rattle.hist_lock.specs.declared.table.Part.{Part}
 use Rattle.hist_lock.specs.declared.table.View.{View}
 use Rattle.hist_lock.specs.declared.table.Stage.TheVariants.{Idle, Waiting, Inside}
-use Rattle.hist_lock.specs.Histories.{made_by, longer, IsKept, GrowsBy}
+use Rattle.hist_lock.specs.Histories.{Legal, made_by, longer, IsKept, GrowsBy}
 use Rattle.hist_lock.specs.Views.{stands, enters, having, alone, up_to, with_one_more, newest, note_of, informed, gathered, spent}
 use Rattle.hist_lock.specs.Rule.{between, Owns}
 use Rattle.hist_lock.specs.Plays.{carried, drew, looked, IsInside, published, passed, counted, heard}
 use Rattle.hist_lock.proofs.Counts.{at_most_sum, sum-lt}
-use Rattle.hist_lock.proofs.Lists.{prefix_same, longer_is, made_by-none}
+use Rattle.hist_lock.proofs.Lists.{prefix_same, longer_is, made_by-none, made_by-begin, made_by-between, Legal-begin}
 use Rattle.hist_lock.proofs.Keeps.{Rule, inside, between-le, between-drawn, between-passed, test_same, enters-le-stands, outside, moves, stays, splits, due, queue-le, inside-le, others_outside, others_absent, number-lt, below-more, knows_longer, joins}
 
 module _ {O E S T : Type 0} (state : O → S) (tag : O → T) (by : E → ℕ) (steps : S → E → S → Type 0) (start : O) where
@@ -70,7 +70,7 @@ module _ {O E S T : Type 0} (state : O → S) (tag : O → T) (by : E → ℕ) (
               hears = k.hears;
               line = (sym turn, home.3);
               heavy = k.heavy;
-              owns = All-cons (Owns by r.log r.callers) (record p { seen = l }) [] record { saw = prefix_same l r.log home.3; made = o.made; first = o.first } (All-nil (Owns by r.log r.callers));
+              owns = All-cons (Owns by r.log r.callers) (record p { seen = l }) [] record { saw = prefix_same l r.log home.3; own = o.made ∙ ap (made_by by p.number) (sym home.3); made = o.made; first = o.first } (All-nil (Owns by r.log r.callers));
             }
             (λ j x _ e. r.each j x e) (λ z. absurd (omega arith)) (λ _. ap (λ (hs : List (maybe.Option (Option K))). set hs 0 none) home.1),
         subst (λ (b : Bool). Then b (w, (0, Some h) ∷ [])) (sym (eq-eqb found (t % 2 ^ 64) hit))
@@ -95,7 +95,7 @@ module _ {O E S T : Type 0} (state : O → S) (tag : O → T) (by : E → ℕ) (
               hears = (log', refl);
               line = (h.line.0, refl);
               heavy = h.heavy;
-              owns = All-cons (Owns by log' r.callers) (up_to by log' p) [] record { saw = prefix_same log' log' refl; made = refl; first = o.first } (All-nil (Owns by log' r.callers));
+              owns = All-cons (Owns by log' r.callers) (up_to by log' p) [] record { saw = prefix_same log' log' refl; own = refl; made = refl; first = o.first } (All-nil (Owns by log' r.callers));
             }
             (λ j x ne e. knows_longer state tag by steps start r.log log' r.passed r.callers p.number x g (others_outside state tag by steps start s r id v at refl j x ne e)
             (others_absent state tag by steps start s r id v at p.number one j x ne e) (r.each j x e))
@@ -130,14 +130,16 @@ module _ {O E S T : Type 0} (state : O → S) (tag : O → T) (by : E → ℕ) (
       hears = k.hears;
       line = tt;
       heavy = k.heavy;
-      owns = All-cons (Owns by r.log r.callers) (record p { seen = r.log }) [] record { saw = prefix_same r.log r.log refl; made = o.made; first = o.first } (All-nil (Owns by r.log r.callers));
+      owns = All-cons (Owns by r.log r.callers) (record p { seen = r.log }) [] record { saw = prefix_same r.log r.log refl; own = o.made; made = o.made; first = o.first } (All-nil (Owns by r.log r.callers));
     },
     ((r.log, refl, ap (λ (ws : List ℕ). get_or ws 2 0) r.words, record { begins = o.saw; legal = r.legal; made = o.made }), refl),
   )
 
-  pub hears : (slots id : ℕ) (p : Part E) (told : List E) → let v : View O E = informed (alone (Some start) Idle p) (record spent { told = told }) in Allows R slots id (v, []) 0 (λ n. n) (heard (step slots 0 0 0 none) (v, []))
+  pub hears : (slots id : ℕ) (p : Part E) (told : List E) → let v : View O E = informed (alone (Some start) Idle p) (record spent { told = told }) in Allows R slots id (v, []) 0 (λ n. n) (heard state by steps (step slots 0 0 0 none) (v, []))
   hears slots id p told s r _ at _ = let v : View O E = informed (alone (Some start) Idle p) (record spent { told = told }) in let k = r.each id v at in let o = All-head (Owns by r.log r.callers) p [] k.owns in
-      let both : List E = longer p.seen told in let is = longer_is p.seen told r.log o.saw k.hears in let w : View O E = alone (Some start) Idle (record p { seen = both }) in (
+      let both : List E = longer p.seen told in let is = longer_is p.seen told r.log o.saw k.hears in let w : View O E = alone (Some start) Idle (record p { seen = both }) in
+      let own : p.mine ≡ made_by by p.number both = o.own ∙ made_by-between by p.number p.seen both r.log is.1 is.0 (sym o.own ∙ o.made) in
+      let legal = Legal-begin steps (state start) r.legal.0 both is.0.0 (subst (λ (l : List E). Legal steps (state start) l r.legal.0) (sym is.0.1) r.legal.1) in (
         w,
         keeps,
         tt,
@@ -146,9 +148,9 @@ module _ {O E S T : Type 0} (state : O → S) (tag : O → T) (by : E → ℕ) (
           hears = (r.log, refl);
           line = tt;
           heavy = k.heavy;
-          owns = All-cons (Owns by r.log r.callers) (record p { seen = both }) [] record { saw = is.0; made = o.made; first = o.first } (All-nil (Owns by r.log r.callers));
+          owns = All-cons (Owns by r.log r.callers) (record p { seen = both }) [] record { saw = is.0; own = own; made = o.made; first = o.first } (All-nil (Owns by r.log r.callers));
         },
-        ((refl, is.1, is.2), refl),
+        ((refl, is.2, record { begins = is.1; legal = legal; made = own }), refl),
       )
 
   pub learns : (id other : ℕ) (p : Part E) (o : Option O) (told : List E) → let w : View O E = record { start = o; stage = Idle; told = told; parts = [] } in Joins R id (alone (Some start) Idle p) other w (informed (alone (Some start) Idle p) w) spent
@@ -164,7 +166,10 @@ module _ {O E S T : Type 0} (state : O → S) (tag : O → T) (by : E → ℕ) (
 
   pub makes : (id : ℕ) (p : Part E) → p.number ≡ 0 → p.splits + 1 < 2 ^ 32 → Splits R id (alone (Some start) Idle p) (with_one_more (alone (Some start) Idle p)) (newest (alone (Some start) Idle p))
   makes id p first fits s r at = let v : View O E = alone (Some start) Idle p in let left : View O E = with_one_more v in let right : View O E = newest v in let k = r.each id v at in let o = All-head (Owns by r.log r.callers) p [] k.owns in
-      let n₀ : ℕ = r.callers in let all : p.splits + 1 ≡ n₀ = o.first first in let child : Part E = record { number = p.splits + 1; splits = 0; seen = p.seen; mine = [] } in
+      let n₀ : ℕ = r.callers in let all : p.splits + 1 ≡ n₀ = o.first first in
+      let none : made_by by (p.splits + 1) r.log ≡ [] = made_by-none by (p.splits + 1) r.log (λ i d b e. let l = r.entries i d b in omega arith) in
+      let none_seen : made_by by (p.splits + 1) p.seen ≡ [] = made_by-begin by (p.splits + 1) p.seen r.log o.saw none in
+      let child : Part E = record { number = p.splits + 1; splits = 0; seen = p.seen; mine = [] } in
       splits state tag by steps start s r id v left right (n₀ + 1) at refl refl (λ i d b. let e = r.entries i d b in omega arith) (omega arith) (omega arith)
       (λ n. let a = having_one n v p refl in let b = having_one n left (record p { splits = p.splits + 1 }) refl in let c = having_one n right child refl in let m = below-more n n₀ in
       let d : ◌≡◌ {A = ℕ} (cond (p.splits + 1 == n) 1 0) (cond (n₀ == n) 1 0) = ap (λ (i : ℕ). let z : ℕ = cond (i == n) 1 0 in z) all in omega arith)
@@ -173,7 +178,7 @@ module _ {O E S T : Type 0} (state : O → S) (tag : O → T) (by : E → ℕ) (
         hears = k.hears;
         line = tt;
         heavy = omega arith;
-        owns = All-cons (Owns by r.log (n₀ + 1)) (record p { splits = p.splits + 1 }) [] record { saw = o.saw; made = o.made; first = λ _. omega arith } (All-nil (Owns by r.log (n₀ + 1)));
+        owns = All-cons (Owns by r.log (n₀ + 1)) (record p { splits = p.splits + 1 }) [] record { saw = o.saw; own = o.own; made = o.made; first = λ _. omega arith } (All-nil (Owns by r.log (n₀ + 1)));
       }
       record {
         same = k.same;
@@ -182,7 +187,8 @@ module _ {O E S T : Type 0} (state : O → S) (tag : O → T) (by : E → ℕ) (
         heavy = omega arith;
         owns = All-cons (Owns by r.log (n₀ + 1)) child [] record {
           saw = o.saw;
-          made = sym (made_by-none by (p.splits + 1) r.log (λ i d b e. let l = r.entries i d b in omega arith));
+          own = sym none_seen;
+          made = sym none;
           first = λ z. absurd (omega arith);
         } (All-nil (Owns by r.log (n₀ + 1)));
       }
@@ -191,7 +197,7 @@ module _ {O E S T : Type 0} (state : O → S) (tag : O → T) (by : E → ℕ) (
         hears = h.hears;
         line = h.line;
         heavy = h.heavy;
-        owns = λ i d b. let q = h.owns i d b in let z = others_absent state tag by steps start s r id v at p.number (one_having v p refl) j x ne e i d b in record { saw = q.saw; made = q.made; first = λ w. absurd (z (w ∙ sym first)) };
+        owns = λ i d b. let q = h.owns i d b in let z = others_absent state tag by steps start s r id v at p.number (one_having v p refl) j x ne e i d b in record { saw = q.saw; own = q.own; made = q.made; first = λ w. absurd (z (w ∙ sym first)) };
       })
 
   pub tells : (id : ℕ) (p : Part E) → Splits R id (alone (Some start) Idle p) (alone (Some start) Idle p) (note_of (alone (Some start) Idle p))
@@ -221,8 +227,8 @@ module _ {O E S T : Type 0} (state : O → S) (tag : O → T) (by : E → ℕ) (
   pub counts_at : (slots id : ℕ) (p : Part E) (m : M) → m ≡ (alone (Some start) Idle p, []) → Allows R slots id m 2 (λ n. n) (counted state by steps (step slots 2 0 0 none) m)
   counts_at slots id p m e = subst (λ (x : M). Allows R slots id x 2 (λ n. n) (counted state by steps (step slots 2 0 0 none) x)) (sym e) (counts slots id p)
 
-  pub hears_at : (slots id : ℕ) (p : Part E) (told : List E) (m : M) → m ≡ (informed (alone (Some start) Idle p) (record spent { told = told }), []) → Allows R slots id m 0 (λ n. n) (heard (step slots 0 0 0 none) m)
-  hears_at slots id p told m e = subst (λ (x : M). Allows R slots id x 0 (λ n. n) (heard (step slots 0 0 0 none) x)) (sym e) (hears slots id p told)
+  pub hears_at : (slots id : ℕ) (p : Part E) (told : List E) (m : M) → m ≡ (informed (alone (Some start) Idle p) (record spent { told = told }), []) → Allows R slots id m 0 (λ n. n) (heard state by steps (step slots 0 0 0 none) m)
+  hears_at slots id p told m e = subst (λ (x : M). Allows R slots id x 0 (λ n. n) (heard state by steps (step slots 0 0 0 none) x)) (sym e) (hears slots id p told)
 
   pub makes_at : (id : ℕ) (p : Part E) (v : View O E) → v ≡ alone (Some start) Idle p → p.number ≡ 0 → p.splits + 1 < 2 ^ 32 → Splits R id v (with_one_more v) (newest v)
   makes_at id p v e first fits = subst (λ (x : View O E). Splits R id x (with_one_more x) (newest x)) (sym e) (makes id p first fits)

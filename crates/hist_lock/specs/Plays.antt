@@ -25,14 +25,6 @@ module _ {O E : Type 0} where
   abbrev pub passed : At O E → Sat O E → ℕ → Sat O E → Type 0
   passed st m found m' = m' ≡ (record m.0 { stage = Idle }, rest m.1)
 
-  -- the caller has now seen the longer of what it had seen and what it was told
-  abbrev pub HearsAs : View O E → List (Part E) → View O E → Type 0
-  HearsAs v (p ∷ []) w = let both : List E = longer p.seen v.told in (w ≡ record v { told = []; parts = record p { seen = both } ∷ [] }) × IsPrefix p.seen both × IsPrefix v.told both
-  HearsAs v _ w = Unit {0}
-
-  abbrev pub heard : At O E → Sat O E → ℕ → Sat O E → Type 0
-  heard st m found m' = HearsAs m.0 m.0.parts m'.0 × (m'.1 ≡ m.1)
-
   -- the value of the slot that the seat has
   abbrev pub carried : List (ℕ × Option (Held O E)) → Option (Held O E)
   carried [] = None
@@ -53,6 +45,14 @@ module _ {O E : Type 0} where
       pub begins : IsPrefix p.seen log
       pub legal : (t : S) × Legal steps (state start) log t
       pub made : p.mine ≡ made_by by p.number log
+
+    -- the caller has now seen the longer of what it had seen and what it was told
+    abbrev pub HearsAs : View O E → Option O → List (Part E) → View O E → Type 0
+    HearsAs v (Some start) (p ∷ []) w = let both : List E = longer p.seen v.told in (w ≡ record v { told = []; parts = record p { seen = both } ∷ [] }) × IsPrefix v.told both × Sees start p both
+    HearsAs v _ _ w = Unit {0}
+
+    abbrev pub heard : At O E → Sat O E → ℕ → Sat O E → Type 0
+    heard st m found m' = HearsAs m.0 m.0.start m.0.parts m'.0 × (m'.1 ≡ m.1)
 
     -- so many entries were published, and the caller has now seen them
     abbrev pub CountsAs : View O E → Option O → List (Part E) → ℕ → View O E → Type 0

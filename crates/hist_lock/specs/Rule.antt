@@ -23,6 +23,7 @@ below n callers = cond (nat_lt n callers) 1 0
 -- what is true of one caller
 pub record Owns {E : Type 0} (by : E → ℕ) (log : List E) (callers : ℕ) (p : Part E) : Type 0 where
   pub saw : IsPrefix p.seen log
+  pub own : p.mine ≡ made_by by p.number p.seen
   pub made : p.mine ≡ made_by by p.number log
   pub first : p.number ≡ 0 → p.splits + 1 ≡ callers
 

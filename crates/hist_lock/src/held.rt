@@ -10,8 +10,8 @@ impl<O: Serial> Held<O, <O as Serial>::Entry> {
     /// Makes one step and keeps its entry. There is room for the entry before the step is made.
     pub(crate) fn step(&mut self, actor: u32, ev: O::Ev) -> Result<O::Reply, (AllocError, O::Ev)>
         requires { O.fits (O.tag self.old.object) ev }
-        ensures ok { IfOk result (λ r. AddsOne O.state O.by O.tells O.steps self.old self.new actor ev r) }
-        ensures err { IfErr result (λ r. (O.state self.new.object ≡ O.state self.old.object) × (self.new.log.items ≡ self.old.log.items) × (r.1 ≡ ev)) }
+        ensures ok { IfOk result (λ r. AddsOne O.state O.by (O.tells (O.tag self.old.object)) O.steps self.old self.new actor ev r) }
+        ensures err { IfErr result (λ r. (O.state self.new.object ≡ O.state self.old.object) × (self.new.log.items ≡ self.old.log.items) × O.same ev r.1) }
         ensures tag { O.tag self.new.object ≡ O.tag self.old.object }
     {
         if self.log.reserve(1).is_err() {

@@ -110,8 +110,8 @@ impl<O: Serial> HistLock<O> {
         requires own { IsCallerOf self.now who.old }
         requires fits { O.fits (O.tag self.now.start) ev }
         ensures same { IsSameCaller who.old who.new }
-        ensures ok { IfOk result (λ r. Extends O.by O.tells who.old ev r who.new) }
-        ensures err { IfErr result (λ r. (r.1 ≡ ev) × IsPrefix who.old.seen who.new.seen × (who.new.mine ≡ who.old.mine)) }
+        ensures ok { IfOk result (λ r. Extends O.by (O.tells (O.tag self.now.start)) who.old ev r who.new) }
+        ensures err { IfErr result (λ r. O.same ev r.1 × IsPrefix who.old.seen who.new.seen × (who.new.mine ≡ who.old.mine)) }
         ensures history { HasHistory O.state O.by O.steps self.now.start who.new }
     {
         let steps = &self.table.shared;
@@ -151,18 +151,19 @@ impl<O: Serial> HistLock<O> {
         self.table.shared.load::<Count<O>>(&mut who.seat, 2)
     }
 
-    /// The first caller has then seen what either had. It waits for nobody.
+    /// The first caller has then seen the longer of what the two had seen. It waits for nobody.
     pub fn learn(&self, who: &mut Caller<O>, other: &mut Caller<O>)
         requires own { IsCallerOf self.now who.old }
         requires other { IsCallerOf self.now other.old }
         ensures who { who.new ≡ record who.old { seen = longer who.old.seen other.old.seen } }
         ensures both { IsPrefix who.old.seen who.new.seen × IsPrefix other.old.seen who.new.seen }
         ensures other { other.new ≡ other.old }
+        ensures history { HasHistory O.state O.by O.steps self.now.start who.new }
     {
         let steps = &self.table.shared;
         let note = steps.split_seat::<Tell>(&mut other.seat);
         steps.join_seat::<Learn>(&mut who.seat, note);
-        steps.load::<Hear>(&mut who.seat, 0);
+        steps.load::<Hear<O>>(&mut who.seat, 0);
     }
 
     /// The object and the whole history, once all callers are given back. The first caller stands at the head.

@@ -46,10 +46,13 @@ impl<O: Serial> Play<Option<Held<O, <O as Serial>::Entry>>, View<O, <O as Serial
     ghost then = { counted O.state O.by O.steps };
 }
 
-pub(crate) struct Hear;
+pub(crate) struct Hear<O> {
+    object: PhantomData<O>,
+}
 
-impl<O, E> Play<Option<Held<O, E>>, View<O, E>> for Hear {
-    ghost then = { heard };
+impl<O: Serial> Play<Option<Held<O, <O as Serial>::Entry>>, View<O, <O as Serial>::Entry>>
+    for Hear<O> {
+    ghost then = { heard O.state O.by O.steps };
 }
 
 pub(crate) struct Make;
