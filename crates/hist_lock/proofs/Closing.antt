@@ -28,7 +28,7 @@ module _ {O E : Type 0} (start : O) where
   IsOf z c = (c.lock ≡ z) × (c.start ≡ Some start)
 
   -- the seat s speaks for all but those that are left
-  pub record IsGathered (z : TableId) (all left : List (Known O E)) (s : Seat (Option (Held O E)) (View O E)) : Type 0 where
+  pub record IsGathered (z : TableId) (all left : List (Known O E)) (s : Seat (Held O E) (View O E)) : Type 0 where
     pub back : List (Known O E)
     pub whole : left ++ back ≡ all
     pub own : All (IsOf z) left
@@ -42,13 +42,13 @@ module _ {O E : Type 0} (start : O) where
     pub last_own : IsOf z x
     last_own = (All-pop (IsOf z) xs ys (Some x) last_is own).1
 
-    pub alone_is : (m : Me (Option (Held O E)) (View O E)) → m ≡ (alone x.start Idle (part_from x), []) → m ≡ (alone (Some start) Idle (part_from x), [])
-    alone_is m e = e ∙ ap (λ (o : Option O). let n : Me (Option (Held O E)) (View O E) = (alone o Idle (part_from x), []) in n) last_own.1
+    pub alone_is : (m : Me (Held O E) (View O E)) → m ≡ (alone x.start Idle (part_from x), []) → m ≡ (alone (Some start) Idle (part_from x), [])
+    alone_is m e = e ∙ ap (λ (o : Option O). let n : Me (Held O E) (View O E) = (alone o Idle (part_from x), []) in n) last_own.1
 
-    pub one_gathered : (s : Seat (Option (Held O E)) (View O E)) → xs ≡ all → s.table_id ≡ x.lock → s.me ≡ (alone x.start Idle (part_from x), []) → IsGathered z all ys s
+    pub one_gathered : (s : Seat (Held O E) (View O E)) → xs ≡ all → s.table_id ≡ x.lock → s.me ≡ (alone x.start Idle (part_from x), []) → IsGathered z all ys s
     one_gathered s e table seat = record { back = x ∷ []; whole = sym last_is ∙ e; own = (All-pop (IsOf z) xs ys (Some x) last_is own).0; table = table ∙ last_own.0; seat = alone_is s.me seat }
 
-    pub more_gathered : (s s' : Seat (Option (Held O E)) (View O E)) (w : View O E) (h : IsGathered z all xs s) → w ≡ alone (Some start) Idle (part_from x) → s'.table_id ≡ s.table_id → s'.me ≡ (gathered s.me.0 w, s.me.1)
+    pub more_gathered : (s s' : Seat (Held O E) (View O E)) (w : View O E) (h : IsGathered z all xs s) → w ≡ alone (Some start) Idle (part_from x) → s'.table_id ≡ s.table_id → s'.me ≡ (gathered s.me.0 w, s.me.1)
         → IsGathered z all ys s'
     more_gathered s s' w h e table seat = record {
       back = x ∷ h.back;
@@ -58,13 +58,13 @@ module _ {O E : Type 0} (start : O) where
       seat = seat ∙ (λ i. (gathered (h.seat i).0 (e i), (h.seat i).1));
     }
 
-  pub all_gathered : (z : TableId) (all left : List (Known O E)) (s : Seat (Option (Held O E)) (View O E)) → IsGathered z all left s → length left ≡ 0 → s.me ≡ (all_of all, [])
-  all_gathered z all [] s h e = h.seat ∙ ap (λ (l : List (Known O E)). let n : Me (Option (Held O E)) (View O E) = (all_of l, []) in n) h.whole
+  pub all_gathered : (z : TableId) (all left : List (Known O E)) (s : Seat (Held O E) (View O E)) → IsGathered z all left s → length left ≡ 0 → s.me ≡ (all_of all, [])
+  all_gathered z all [] s h e = h.seat ∙ ap (λ (l : List (Known O E)). let n : Me (Held O E) (View O E) = (all_of l, []) in n) h.whole
   all_gathered z all (c ∷ cs) s h e = absurd (omega arith)
 
 module _ {O E S T : Type 0} (state : O → S) (tag : O → T) (by : E → ℕ) (steps : S → E → S → Type 0) (start : O) where
-  pub ended : (cs : List (Known O E)) (s : State (Option (Held O E)) (View O E)) (r : Rule state tag by steps start s) (id : ℕ) (v : View O E) → get_elem? s.views id ≡ some v → v ≡ all_of start cs → IsAll cs
-      → (k : Held O E) × (s.homes ≡ some (Some k) ∷ []) × IsClosed state tag by steps start (map part_from cs) k
+  pub ended : (cs : List (Known O E)) (s : State (Held O E) (View O E)) (r : Rule state tag by steps start s) (id : ℕ) (v : View O E) → get_elem? s.views id ≡ some v → v ≡ all_of start cs → IsAll cs
+      → (k : Held O E) × (s.homes ≡ some k ∷ []) × IsClosed state tag by steps start (map part_from cs) k
   ended [] s r id v at is all = absurd all
   ended (c ∷ cs) s r id v at is all = closes state tag by steps start s r id (part_from c) (map part_from cs) (at ∙ ap some is) all.0 (all.1 ∙ sym (length-map (c ∷ cs) part_from))
 
@@ -82,18 +82,12 @@ module _ {O E S T : Type 0} (state : O → S) (tag : O → T) (by : E → ℕ) (
     all_numbered n b = let long = length-map cs (λ (c : Known O E). c.number) in let long' = length-map cs (part_from {O = O} {E = E}) in
         count_by-map (λ (c : Known O E). c.number) (λ m. m == n) cs ∙ (sym (count_by-map part_from (λ (p : Part E). p.number == n) cs) ∙ h.once n (omega arith))
 
-  same_some : (k r : Held O E) → ◌≡◌ {A = Option (Held O E)} (Some k) (Some r) → k ≡ r
-  same_some k r e = cc
-
   -- what the slot held when the table was closed
-  module _ (cs : List (Known O E)) (ws : List ℕ) (xs : List (Option (Held O E))) (id : ℕ) (v : View O E) (x : Option (Held O E)) (final : Final (Seen (Rule state tag by steps start) id v) ws xs) (is : v ≡ all_of start cs) (all : IsAll cs)
-      (taken : get_elem? xs 0 ≡ some x) where
-    pub was_there : (k : Held O E) × (x ≡ Some k) × IsClosed state tag by steps start (map part_from cs) k
-    was_there = let end = ended cs final.0 final.1.0 id v final.1.1 is all in
-        (end.0, some-injective x (Some end.0) (sym taken ∙ final.4 0 (Some end.0) (ap (λ (hs : List (maybe.Option (Option (Held O E)))). get_elem? hs 0) end.1)), end.2)
-
-    pub closed_is : (k : Held O E) → x ≡ Some k → IsClosed state tag by steps start (map part_from cs) k
-    closed_is k e = subst (IsClosed state tag by steps start (map part_from cs)) (same_some was_there.0 k (sym was_there.1 ∙ e)) was_there.2
+  module _ (cs : List (Known O E)) (ws : List ℕ) (xs : List (Held O E)) (id : ℕ) (v : View O E) (k : Held O E) (final : Final (Seen (Rule state tag by steps start) id v) ws xs) (is : v ≡ all_of start cs) (all : IsAll cs)
+      (taken : get_elem? xs 0 ≡ some k) where
+    pub closed_is : IsClosed state tag by steps start (map part_from cs) k
+    closed_is = let end = ended cs final.0 final.1.0 id v final.1.1 is all in
+        subst (IsClosed state tag by steps start (map part_from cs)) (some-injective end.0 k (sym (final.4 0 end.0 (ap (λ (hs : List (maybe.Option (Held O E))). get_elem? hs 0) end.1)) ∙ taken)) end.2
 
 pub some_callers : {O E : Type 0} (cs : List (Known O E)) → IsAll cs → 0 < length cs
 some_callers [] h = absurd h

@@ -1,5 +1,5 @@
 -- Sums over the views, as one of them changes.
-use Rattle.std.proofs.Common.{◌≡◌, ◌≢◌, ℕ, zero, suc, ◌+◌, ◌<◌, ◌≤◌, List, [], ◌∷◌, ◌++◌, set, sum_by, sym, refl, ap, arith}
+use Rattle.std.proofs.Common.{◌≡◌, ◌≢◌, ℕ, zero, suc, ◌+◌, ◌≤◌, List, [], ◌∷◌, ◌++◌, set, sum_by, sym, refl, ap, arith}
 use Rattle.std.proofs.lemmas.List.Sums.{sum_by-cons, sum_by-append}
 use mathlib.Core.Option.{some, some-injective, some-ne-none}
 use lib.ListN.{get_elem?}
@@ -34,14 +34,3 @@ module _ {A : Type 0} (f : A → ℕ) where
   sum-only [] i v e h = absurd (some-ne-none v (sym e))
   sum-only (x ∷ xs) zero v e h = let s : f x ≡ f v = ap f (some-injective x v e) in omega (arith, sum_by-cons f x xs, sum-none xs (λ j w d. h (suc j) w (λ z. omega arith) d))
   sum-only (x ∷ xs) (suc i) v e h = omega (arith, sum_by-cons f x xs, h zero x (λ z. omega arith) refl, sum-only xs i v e (λ j w n d. h (suc j) w (λ z. n (omega arith)) d))
-
-module _ {A : Type 0} (f g : A → ℕ) where
-  pub sum-le : (l : List A) → ((i : ℕ) (v : A) → get_elem? l i ≡ some v → f v ≤ g v) → sum_by f l ≤ sum_by g l
-  sum-le [] h = omega arith
-  sum-le (x ∷ xs) h = omega (arith, sum_by-cons f x xs, sum_by-cons g x xs, h zero x refl, sum-le xs (λ i v e. h (suc i) v e))
-
-  pub sum-lt : (l : List A) (i : ℕ) (v : A) → ((j : ℕ) (w : A) → get_elem? l j ≡ some w → f w ≤ g w) → get_elem? l i ≡ some v → f v < g v → sum_by f l < sum_by g l
-  sum-lt [] i v h e lt = absurd (some-ne-none v (sym e))
-  sum-lt (x ∷ xs) zero v h e lt = let s : f x ≡ f v = ap f (some-injective x v e) in let t : g x ≡ g v = ap g (some-injective x v e) in
-      omega (arith, sum_by-cons f x xs, sum_by-cons g x xs, sum-le xs (λ i w e. h (suc i) w e))
-  sum-lt (x ∷ xs) (suc i) v h e lt = omega (arith, sum_by-cons f x xs, sum_by-cons g x xs, h zero x refl, sum-lt xs i v (λ j w e. h (suc j) w e) e lt)

@@ -1,5 +1,5 @@
 -- The seat of a caller between two calls, and what contracts see of it.
-use Rattle.std.proofs.Common.{◌≡◌, ℕ, List, [], length, Option, Some, sym, ap, ◌∙◌, subst}
+use Rattle.std.proofs.Common.{◌≡◌, ℕ, ◌/◌, List, [], length, Option, Some, sym, ap, ◌∙◌, subst}
 use mathlib.Core.Option.{none}
 use Rattle.atomic_table.specs.Table.{Me, step}
 use Rattle.atomic_table.specs.declared.shared.Seat.{Seat}
@@ -15,10 +15,10 @@ use Rattle.hist_lock.specs.Plays.{counted, Sees, heard}
 use Rattle.hist_lock.specs.Callers.{Known, Begun, known, part_from, IsResting, IsSameCaller}
 
 abbrev pub Place : Type 0 → Type 0 → Type 0
-Place O E = Seat (Option (Held O E)) (View O E)
+Place O E = Seat (Held O E) (View O E)
 
 abbrev pub Sat : Type 0 → Type 0 → Type 0
-Sat O E = Me (Option (Held O E)) (View O E)
+Sat O E = Me (Held O E) (View O E)
 
 module _ {O E : Type 0} where
   pub rests : (s : Place O E) (number splits : ℕ) (c : Known O E) → IsResting s number splits → known s number splits ≡ c → s.me ≡ (alone c.start Idle (part_from c), [])
@@ -38,7 +38,7 @@ module _ {O E : Type 0} where
     resting number splits en es = e ∙ (λ i. (alone (sym e i).0.start Idle (record { number = en i; splits = es i; seen = (part_of (sym e i).0).seen; mine = (part_of (sym e i).0).mine }), []))
 
   -- the caller's part is what the seat has
-  pub own_part : (m : Sat O E) (o : Option O) (g : Stage E) (p : Part E) (cs : List (ℕ × Option (Held O E))) → m ≡ (alone o g p, cs) → m ≡ (alone o g (part_of m.0), cs)
+  pub own_part : (m : Sat O E) (o : Option O) (g : Stage) (p : Part E) (cs : List (ℕ × Held O E)) → m ≡ (alone o g p, cs) → m ≡ (alone o g (part_of m.0), cs)
   own_part m o g p cs e = e ∙ ap (λ (q : Part E). let x : Sat O E = (alone o g q, cs) in x) (sym (ap (λ (x : Sat O E). part_of x.0) e))
 
   -- a seat from which contracts see the caller d
@@ -63,9 +63,9 @@ module _ {O E : Type 0} where
     of_known P h = subst (λ (x : Known O E). P x.seen x.mine) (sym (known_is s' (Some b'.start) q e number splits)) h
 
   module _ {S : Type 0} (state : O → S) (by : E → ℕ) (steps : S → E → S → Type 0) where
-    pub counted_is : (start : O) (found : ℕ) (p : Part E) (m m' : Sat O E) → m ≡ (alone (Some start) Idle p, []) → counted state by steps (step 0 2 0 0 none) m found m'
-        → (l : List E) × (m' ≡ (alone (Some start) Idle (record p { seen = l }), [])) × (found ≡ length l) × Sees state by steps start p l
-    counted_is start found p m m' e d = let h = subst (λ (x : Sat O E). counted state by steps (step 0 2 0 0 none) x found m') e d in (h.0.0, (λ i. (h.0.1 i, h.1 i)), h.0.2, h.0.3)
+    pub counted_is : (start : O) (found : ℕ) (p : Part E) (m m' : Sat O E) → m ≡ (alone (Some start) Idle p, []) → counted state by steps (step 0 0 0 0 none) m found m'
+        → (l : List E) × (m' ≡ (alone (Some start) Idle (record p { seen = l }), [])) × (found / 2 ≡ length l) × Sees state by steps start p l
+    counted_is start found p m m' e d = let h = subst (λ (x : Sat O E). counted state by steps (step 0 0 0 0 none) x found m') e d in (h.0.0, (λ i. (h.0.1 i, h.1 i)), h.0.2, h.0.3)
 
     pub heard_is : (start : O) (p : Part E) (told : List E) (m : Sat O E) (found : ℕ) (m' : Sat O E) → m ≡ (informed (alone (Some start) Idle p) (record spent { told = told }), []) → heard state by steps (step 0 0 0 0 none) m found m'
         → let both : List E = longer p.seen told in (m' ≡ (alone (Some start) Idle (record p { seen = both }), [])) × IsPrefix told both × Sees state by steps start p both
@@ -73,5 +73,5 @@ module _ {O E : Type 0} where
 
   -- a caller that was told what another had seen
   module _ (o : Option O) (p : Part E) (told : List E) (m : Sat O E) where
-    pub informed_is : (v w : View O E) (c : List (ℕ × Option (Held O E))) → ◌≡◌ {A = Sat O E} (v, c) (alone o Idle p, []) → w.told ≡ told → m ≡ (informed v w, c) → m ≡ (informed (alone o Idle p) (record spent { told = told }), [])
+    pub informed_is : (v w : View O E) (c : List (ℕ × Held O E)) → ◌≡◌ {A = Sat O E} (v, c) (alone o Idle p, []) → w.told ≡ told → m ≡ (informed v w, c) → m ≡ (informed (alone o Idle p) (record spent { told = told }), [])
     informed_is v w c e t d = d ∙ (λ i. (informed (e i).0 (record spent { told = t i }), (e i).1))

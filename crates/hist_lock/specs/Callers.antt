@@ -23,13 +23,17 @@ pub record Begun (O : Type 0) : Type 0 where
   pub lock : TableId
   pub start : O
 
--- the words and the slot of the table
+-- the word and the slot of the table
 abbrev pub IsBoard : TableId → Type 0
-IsBoard z = (z.words ≡ 3) × (z.slots ≡ 1)
+IsBoard z = (z.words ≡ 1) × (z.slots ≡ 1)
+
+-- the caller has one entry more, at the end of what it has seen, which tells the event and the reply
+abbrev pub AddsTo : {E Ev R : Type 0} → (E → ℕ) → (E → Ev → R → Type 0) → Part E → Ev → R → Part E → Type 0
+AddsTo {E} by tells p ev r q = (e : E) × (q ≡ record p { seen = p.seen ++ e ∷ []; mine = p.mine ++ e ∷ [] }) × (by e ≡ p.number) × tells e ev r
 
 module _ {O E : Type 0} where
   -- what contracts see of a caller, from its seat, its number and its count of splits
-  abbrev pub known : Seat (Option (Held O E)) (View O E) → ℕ → ℕ → Known O E
+  abbrev pub known : Seat (Held O E) (View O E) → ℕ → ℕ → Known O E
   known s number splits = let p : Part E = part_of s.me.0 in record { lock = s.table_id; start = s.me.0.start; number = number; splits = splits; seen = p.seen; mine = p.mine }
 
   -- what a seat keeps of a caller
@@ -37,7 +41,7 @@ module _ {O E : Type 0} where
   part_from c = record { number = c.number; splits = c.splits; seen = c.seen; mine = c.mine }
 
   -- the seat of a caller between two calls
-  abbrev pub IsResting : Seat (Option (Held O E)) (View O E) → ℕ → ℕ → Type 0
+  abbrev pub IsResting : Seat (Held O E) (View O E) → ℕ → ℕ → Type 0
   IsResting s number splits = s.me ≡ (alone s.me.0.start Idle (part_from (known s number splits)), [])
 
   -- the caller is one of this lock

@@ -1,5 +1,5 @@
 -- The rule of the table: what holds between any two steps.
-use Rattle.std.specs.Prelude.{◌≡◌, ℕ, ◌+◌, ◌%◌, ◌^◌, ◌<◌, ◌≤◌, nat_lt, nat_le, cond, All, sum_by, List, [], ◌∷◌, length, Option, Some}
+use Rattle.std.specs.Prelude.{◌≡◌, ℕ, ◌+◌, ◌*◌, ◌<◌, ◌≤◌, nat_lt, cond, All, sum_by, List, [], ◌∷◌, length, Some}
 use mathlib.Core.Option.{none, some}
 use mathlib.Core.List.{IsPrefix}
 use lib.ListN.{get_elem?}
@@ -8,13 +8,9 @@ use Rattle.hist_lock.specs.declared.table.Held.{Held}
 use Rattle.hist_lock.specs.declared.table.Part.{Part}
 use Rattle.hist_lock.specs.declared.table.View.{View}
 use Rattle.hist_lock.specs.declared.table.Stage.{Stage}
-use Rattle.hist_lock.specs.declared.table.Stage.TheVariants.{Idle, Waiting, Inside}
+use Rattle.hist_lock.specs.declared.table.Stage.TheVariants.{Idle, Inside}
 use Rattle.hist_lock.specs.Histories.{Legal, made_by, IsKept}
-use Rattle.hist_lock.specs.Views.{waits, stands, enters, having}
-
--- 1 for a ticket that was drawn and has not had its turn
-abbrev pub between : ℕ → ℕ → ℕ → ℕ
-between t passed drawn = cond (nat_le passed t) (cond (nat_lt t drawn) 1 0) 0
+use Rattle.hist_lock.specs.Views.{enters, having, first_part}
 
 -- 1 for the number of a caller
 abbrev pub below : ℕ → ℕ → ℕ
@@ -27,34 +23,31 @@ pub record Owns {E : Type 0} (by : E → ℕ) (log : List E) (callers : ℕ) (p 
   pub made : p.mine ≡ made_by by p.number log
   pub first : p.number ≡ 0 → p.splits + 1 ≡ callers
 
--- whose turn it is has the history as it is
-abbrev pub IsInLine : {E : Type 0} → ℕ → List E → Stage E → Type 0
-IsInLine passed log Idle = Unit {0}
-IsInLine passed log (Waiting t) = Unit {0}
-IsInLine passed log (Inside t l) = (t ≡ passed) × (l ≡ log)
+-- who has the lock has seen the whole history
+abbrev pub IsUpToDate : {E : Type 0} → List E → Stage → List (Part E) → Type 0
+IsUpToDate log Idle ps = Unit {0}
+IsUpToDate log Inside ps = (first_part ps).seen ≡ log
 
 -- what is true of one seat
-pub record Knows {O E : Type 0} (by : E → ℕ) (start : O) (log : List E) (passed callers : ℕ) (v : View O E) : Type 0 where
+pub record Knows {O E : Type 0} (by : E → ℕ) (start : O) (log : List E) (callers : ℕ) (v : View O E) : Type 0 where
   pub same : 0 < length v.parts → v.start ≡ Some start
   pub hears : IsPrefix v.told log
-  pub line : IsInLine passed log v.stage
-  pub heavy : waits v.stage ≤ length v.parts
+  pub current : IsUpToDate log v.stage v.parts
+  pub heavy : enters v.stage ≤ length v.parts
   pub owns : All (Owns by log callers) v.parts
 
--- Each ticket that is due stands with one seat, and each number below `callers` with one. The slot has the object where nobody's turn has begun
-pub record Ruled {O E S T : Type 0} (state : O → S) (tag : O → T) (by : E → ℕ) (steps : S → E → S → Type 0) (start : O) (s : State (Option (Held O E)) (View O E)) : Type 0 where
+-- At most one seat has the lock, and the object stands in the slot where none has. Each number below `callers` stands with one seat
+pub record Ruled {O E S T : Type 0} (state : O → S) (tag : O → T) (by : E → ℕ) (steps : S → E → S → Type 0) (start : O) (s : State (Held O E) (View O E)) : Type 0 where
   pub log : List E
-  pub drawn : ℕ
-  pub passed : ℕ
+  pub taken : ℕ
   pub callers : ℕ
-  pub words : s.words ≡ drawn % 2 ^ 64 ∷ passed % 2 ^ 64 ∷ length log ∷ []
+  pub words : s.words ≡ (2 * length log + taken) ∷ []
+  pub inside : sum_by (λ v. enters v.stage) s.views ≡ taken
+  pub one : taken ≤ 1
   pub legal : (t : S) × Legal steps (state start) log t
   pub entries : All (λ e. by e < callers) log
-  pub few : callers ≤ 2 ^ 32
   pub whole : sum_by (λ v. length v.parts) s.views ≡ callers
-  pub queue : passed + sum_by (λ v. waits v.stage) s.views ≡ drawn
-  pub tickets : (t : ℕ) → sum_by (λ v. stands t v.stage) s.views ≡ between t passed drawn
   pub numbers : (n : ℕ) → sum_by (having n) s.views ≡ below n callers
-  pub each : (i : ℕ) (v : View O E) → get_elem? s.views i ≡ some v → Knows by start log passed callers v
-  pub home : sum_by (λ v. enters v.stage) s.views ≡ 0 → (k : Held O E) × (s.homes ≡ some (Some k) ∷ []) × IsKept state tag steps start k.object k.log.items × (k.log.items ≡ log)
-  pub away : 0 < sum_by (λ v. enters v.stage) s.views → s.homes ≡ none ∷ []
+  pub each : (i : ℕ) (v : View O E) → get_elem? s.views i ≡ some v → Knows by start log callers v
+  pub home : taken ≡ 0 → (k : Held O E) × (s.homes ≡ some k ∷ []) × IsKept state tag steps start k.object k.log.items × (k.log.items ≡ log)
+  pub away : taken ≡ 1 → s.homes ≡ none ∷ []

@@ -1,33 +1,22 @@
 -- What the seats at the table know, and how it changes where one is split in two or two are joined.
-use Rattle.std.specs.Prelude.{ℕ, ◌+◌, ◌==◌, cond, count_by, List, [], ◌∷◌, ◌++◌, Option, Some, None}
+use Rattle.std.specs.Prelude.{ℕ, ◌+◌, ◌==◌, count_by, List, [], ◌∷◌, ◌++◌, Option, Some, None}
 use Rattle.hist_lock.specs.declared.table.Part.{Part}
 use Rattle.hist_lock.specs.declared.table.View.{View}
 use Rattle.hist_lock.specs.declared.table.Stage.{Stage}
-use Rattle.hist_lock.specs.declared.table.Stage.TheVariants.{Idle, Waiting, Inside}
+use Rattle.hist_lock.specs.declared.table.Stage.TheVariants.{Idle, Inside}
 use Rattle.hist_lock.specs.Histories.{made_by}
 
+-- 1 for a seat that has the lock
+abbrev pub enters : Stage → ℕ
+enters Idle = 0
+enters Inside = 1
+
 module _ {E : Type 0} where
-  -- 1 for a seat that has a ticket
-  abbrev pub waits : Stage E → ℕ
-  waits Idle = 0
-  waits (Waiting t) = 1
-  waits (Inside t log) = 1
-
-  -- 1 for a seat that has the ticket t
-  abbrev pub stands : ℕ → Stage E → ℕ
-  stands t Idle = 0
-  stands t (Waiting u) = cond (u == t) 1 0
-  stands t (Inside u log) = cond (u == t) 1 0
-
-  -- 1 for a seat whose turn it is
-  abbrev pub enters : Stage E → ℕ
-  enters Idle = 0
-  enters (Waiting t) = 0
-  enters (Inside t log) = 1
-
+  -- what is known of no caller yet
   abbrev pub no_part : Part E
   no_part = record { number = 0; splits = 0; seen = []; mine = [] }
 
+  -- the first of a seat's callers
   abbrev pub first_part : List (Part E) → Part E
   first_part [] = no_part
   first_part (p ∷ ps) = p
@@ -36,6 +25,7 @@ module _ {E : Type 0} where
   abbrev pub up_to : (E → ℕ) → List E → Part E → Part E
   up_to by log p = record p { seen = log; mine = made_by by p.number log }
 
+  -- the first has split off one caller more
   abbrev pub one_more : List (Part E) → List (Part E)
   one_more [] = []
   one_more (p ∷ ps) = record p { splits = p.splits + 1 } ∷ ps
@@ -51,9 +41,10 @@ module _ {O E : Type 0} where
   having n v = count_by (λ p. p.number == n) v.parts
 
   -- a seat of one caller, which was told nothing
-  abbrev pub alone : Option O → Stage E → Part E → View O E
+  abbrev pub alone : Option O → Stage → Part E → View O E
   alone start stage p = record { start = start; stage = stage; told = []; parts = p ∷ [] }
 
+  -- what is known of the seat's first caller
   abbrev pub part_of : View O E → Part E
   part_of v = first_part v.parts
 
@@ -61,9 +52,11 @@ module _ {O E : Type 0} where
   abbrev pub newcomer : O → View O E
   newcomer start = alone (Some start) Idle no_part
 
+  -- the seat, after its caller has split off one more
   abbrev pub with_one_more : View O E → View O E
   with_one_more v = record v { parts = one_more v.parts }
 
+  -- the seat of the caller that was split off
   abbrev pub newest : View O E → View O E
   newest v = record { start = v.start; stage = Idle; told = []; parts = newborn v.parts }
 
@@ -71,11 +64,14 @@ module _ {O E : Type 0} where
   abbrev pub note_of : View O E → View O E
   note_of v = record { start = v.start; stage = Idle; told = (part_of v).seen; parts = [] }
 
+  -- the seat, which has been told what the other one was
   abbrev pub informed : View O E → View O E → View O E
   informed v w = record v { told = w.told }
 
+  -- the seat, with the callers of the other one
   abbrev pub gathered : View O E → View O E → View O E
   gathered v w = record v { parts = w.parts ++ v.parts }
 
+  -- what is left of a seat that was joined to another
   abbrev pub spent : View O E
   spent = record { start = None; stage = Idle; told = []; parts = [] }

@@ -1,5 +1,5 @@
 //! The lock.
-ghost use Rattle.std.specs.Prelude.{◌≡◌, ◌<◌, [], length, map, All, Some, IfSome, IsSomeAnd};
+ghost use Rattle.std.specs.Prelude.{◌≡◌, ◌<◌, [], length, map, All, Some};
 ghost use Rattle.hist_lock.specs.Callers.{IsBoard, part_from};
 ghost use Rattle.hist_lock.specs.declared.table.Stage.TheVariants.{Idle};
 
@@ -7,7 +7,7 @@ use crate::caller::Caller;
 use crate::plays::{Count, Gather, Hear, Learn, Make, Tell};
 use crate::serial::Serial;
 use crate::table::{Board, Held, Place, Steps};
-use crate::turn::{give_turn, take_turn};
+use crate::turn::{step_and_give, take};
 use atomic_table::{Refused, Table};
 use std::alloc::{AllocError, AllocFailed, Global};
 use std::marker::Model;
@@ -15,7 +15,7 @@ use std::snapshot::Snapshot;
 use std::sync::Wait;
 
 /// The lock, which threads share by reference. Contracts see which one it is, and its object as it began.
-/// No clause says that a caller ever gets its turn.
+/// Callers take it in no order, and no clause says that a caller ever gets it.
 #[derive(Drop)]
 pub struct HistLock<O: Serial> {
     table: Board<O>,
@@ -31,13 +31,11 @@ impl<O: Serial> Model for HistLock<O> {
     ghost invariant = { λ h. IsBoard h.table.shared.table_id };
 }
 
-fn object_of<O, E>(slot: Option<Held<O, E>>) -> O
-    requires { IsSomeAnd slot (λ k. k.log.items ≡ []) }
-    ensures { IfSome slot (λ k. result ≡ k.object) }
+fn object_of<O, E>(held: Held<O, E>) -> O
+    requires { held.log.items ≡ [] }
+    ensures { result ≡ held.object }
 {
-    let Some(Held { object, log }) = slot else {
-        unreachable!()
-    };
+    let Held { object, log } = held;
     log.destroy_empty();
     object
 }
@@ -77,11 +75,11 @@ impl<O: Serial> HistLock<O> {
             object,
             log: Vec::new(alloc),
         };
-        if let Err(AllocFailed { value }) = slots.push(Some(held)) {
+        if let Err(AllocFailed { value }) = slots.push(held) {
             slots.destroy_empty();
             return Err((AllocError, object_of(value)));
         }
-        match Table::new(alloc, &[0, 0, 0], slots, &start) {
+        match Table::new(alloc, &[0], slots, &start) {
             Ok((table, seat)) => Ok((
                 HistLock { table },
                 Caller {
@@ -100,7 +98,7 @@ impl<O: Serial> HistLock<O> {
         }
     }
 
-    /// Waits for the caller's turn, and makes one step. Without memory no entry is made, and the event comes back.
+    /// Waits until the lock is free, and makes one step. Without memory no entry is made, and the event comes back.
     pub fn call<R: Wait>(
         &self,
         rt: &R,
@@ -115,10 +113,8 @@ impl<O: Serial> HistLock<O> {
         ensures history { HasHistory O.state O.by O.steps self.now.start who.new }
     {
         let steps = &self.table.shared;
-        let mut held = take_turn(rt, steps, &mut who.seat);
-        let answer = held.step(who.number, ev);
-        give_turn(steps, &mut who.seat, held);
-        answer
+        take(rt, steps, &mut who.seat);
+        step_and_give(steps, &mut who.seat, who.number, ev)
     }
 
     /// A second caller with the next number, which has seen what the first has, and made no entry.
@@ -148,7 +144,7 @@ impl<O: Serial> HistLock<O> {
         ensures seen { (result ≡ length who.new.seen) × IsPrefix who.old.seen who.new.seen }
         ensures history { HasHistory O.state O.by O.steps self.now.start who.new }
     {
-        self.table.shared.load::<Count<O>>(&mut who.seat, 2)
+        self.table.shared.load::<Count<O>>(&mut who.seat, 0) / 2
     }
 
     /// The first caller has then seen the longer of what the two had seen. It waits for nobody.
@@ -180,9 +176,7 @@ impl<O: Serial> HistLock<O> {
         let Self { table } = self;
         let seat = gather(&table.shared, callers);
         let mut closed = table.close_with(seat);
-        let Some(Held { object, log }) = closed.take(0) else {
-            unreachable!()
-        };
+        let Held { object, log } = closed.take(0);
         closed.free();
         (object, log)
     }

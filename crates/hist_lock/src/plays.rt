@@ -1,5 +1,5 @@
 //! What each step on the table tells.
-ghost use Rattle.hist_lock.specs.Plays.{drew, looked, published, passed, counted, heard};
+ghost use Rattle.hist_lock.specs.Plays.{tried, gave, counted, heard};
 ghost use Rattle.hist_lock.specs.Views.{with_one_more, newest, note_of, informed, gathered, spent};
 
 use crate::serial::Serial;
@@ -7,42 +7,27 @@ use crate::table::{Held, View};
 use atomic_table::{Join, Play, Split};
 use std::marker::PhantomData;
 
-pub(crate) struct Draw;
-
-impl<O, E> Play<Option<Held<O, E>>, View<O, E>> for Draw {
-    ghost then = { drew };
-}
-
-pub(crate) struct Look<O> {
+pub(crate) struct Take<O> {
     object: PhantomData<O>,
 }
 
-impl<O: Serial> Play<Option<Held<O, <O as Serial>::Entry>>, View<O, <O as Serial>::Entry>>
-    for Look<O> {
-    ghost then = { looked O.state O.tag O.by O.steps };
+impl<O: Serial> Play<Held<O, <O as Serial>::Entry>, View<O, <O as Serial>::Entry>> for Take<O> {
+    ghost then = { tried O.state O.tag O.by O.steps };
 }
 
-pub(crate) struct Publish<O> {
+pub(crate) struct Give<O> {
     object: PhantomData<O>,
 }
 
-impl<O: Serial> Play<Option<Held<O, <O as Serial>::Entry>>, View<O, <O as Serial>::Entry>>
-    for Publish<O> {
-    ghost then = { published O.by };
-}
-
-pub(crate) struct Pass;
-
-impl<O, E> Play<Option<Held<O, E>>, View<O, E>> for Pass {
-    ghost then = { passed };
+impl<O: Serial> Play<Held<O, <O as Serial>::Entry>, View<O, <O as Serial>::Entry>> for Give<O> {
+    ghost then = { gave O.by };
 }
 
 pub(crate) struct Count<O> {
     object: PhantomData<O>,
 }
 
-impl<O: Serial> Play<Option<Held<O, <O as Serial>::Entry>>, View<O, <O as Serial>::Entry>>
-    for Count<O> {
+impl<O: Serial> Play<Held<O, <O as Serial>::Entry>, View<O, <O as Serial>::Entry>> for Count<O> {
     ghost then = { counted O.state O.by O.steps };
 }
 
@@ -50,8 +35,7 @@ pub(crate) struct Hear<O> {
     object: PhantomData<O>,
 }
 
-impl<O: Serial> Play<Option<Held<O, <O as Serial>::Entry>>, View<O, <O as Serial>::Entry>>
-    for Hear<O> {
+impl<O: Serial> Play<Held<O, <O as Serial>::Entry>, View<O, <O as Serial>::Entry>> for Hear<O> {
     ghost then = { heard O.state O.by O.steps };
 }
 

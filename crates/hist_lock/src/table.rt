@@ -1,5 +1,5 @@
 //! The table that the callers share.
-//! Word 0 is the next ticket, word 1 the ticket whose turn it is, word 2 the number of entries. The one slot holds the object and its history, while no caller has them.
+//! Its one word is twice the number of entries, and 1 more while a caller has the lock. Its one slot holds the object and its history.
 use crate::serial::Serial;
 use atomic_table::{Seat, Shared, Table, TableRule};
 use std::alloc::Global;
@@ -14,13 +14,10 @@ pub struct Held<O, E> {
     pub log: Vec<E>,
 }
 
-/// Where a seat stands in the line. No value of it is made.
-pub enum Stage<E> {
+/// Whether a seat has the lock. No value of it is made.
+pub enum Stage {
     Idle,
-    /// With this ticket.
-    Waiting(u64),
-    /// With this ticket, and the history as it is.
-    Inside(u64, LinkedList<E>),
+    Inside,
 }
 
 /// What is known of one caller. No value of it is made.
@@ -38,7 +35,7 @@ pub struct Part<E> {
 pub struct View<O, E> {
     /// The object as it began.
     pub start: Option<O>,
-    pub stage: Stage<E>,
+    pub stage: Stage,
     /// A beginning of the history that another caller told.
     pub told: LinkedList<E>,
     /// The callers that the seat speaks for: one of its own, and at the end all.
@@ -50,11 +47,8 @@ pub struct Law<O> {
     object: PhantomData<O>,
 }
 
-impl<O: Serial> TableRule<
-    Option<Held<O, <O as Serial>::Entry>>,
-    View<O, <O as Serial>::Entry>,
-    Snapshot<O>,
-> for Law<O> {
+impl<O: Serial> TableRule<Held<O, <O as Serial>::Entry>, View<O, <O as Serial>::Entry>, Snapshot<O>>
+    for Law<O> {
     ghost use Rattle.hist_lock.specs.Rule.{Ruled};
     ghost use Rattle.hist_lock.specs.Views.{newcomer};
 
@@ -64,7 +58,7 @@ impl<O: Serial> TableRule<
 }
 
 pub type Board<O> = Table<
-    Option<Held<O, <O as Serial>::Entry>>,
+    Held<O, <O as Serial>::Entry>,
     View<O, <O as Serial>::Entry>,
     Snapshot<O>,
     Law<O>,
@@ -72,10 +66,10 @@ pub type Board<O> = Table<
 >;
 
 pub type Steps<O> = Shared<
-    Option<Held<O, <O as Serial>::Entry>>,
+    Held<O, <O as Serial>::Entry>,
     View<O, <O as Serial>::Entry>,
     Snapshot<O>,
     Law<O>,
 >;
 
-pub type Place<O> = Seat<Option<Held<O, <O as Serial>::Entry>>, View<O, <O as Serial>::Entry>>;
+pub type Place<O> = Seat<Held<O, <O as Serial>::Entry>, View<O, <O as Serial>::Entry>>;

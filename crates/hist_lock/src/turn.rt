@@ -1,53 +1,73 @@
-//! One turn of the lock: the object leaves the slot, and comes back.
-ghost use Rattle.std.specs.Prelude.{◌≡◌, ℕ, [], ◌∷◌, None};
-ghost use Rattle.hist_lock.specs.Histories.{IsKept, GrowsBy};
+//! One turn of the lock: it is taken, the object makes its step in place, and the lock is given back.
+ghost use Rattle.std.specs.Prelude.{◌≡◌, ◌<◌, [], MatchBool, IfOk, IfErr};
+ghost use Rattle.hist_lock.specs.Histories.{Legal};
 ghost use Rattle.hist_lock.specs.Views.{alone, part_of, up_to};
 ghost use Rattle.hist_lock.specs.Plays.{IsInside};
-ghost use Rattle.hist_lock.specs.Callers.{IsBoard};
-ghost use Rattle.hist_lock.specs.declared.table.Stage.TheVariants.{Idle, Inside};
+ghost use Rattle.hist_lock.specs.Callers.{IsBoard, AddsTo};
+ghost use Rattle.hist_lock.specs.declared.table.Stage.TheVariants.{Idle};
 
-use crate::plays::{Draw, Look, Pass, Publish};
+use crate::plays::{Give, Take};
 use crate::serial::Serial;
-use crate::table::{Held, Place, Steps};
+use crate::table::{Place, Steps};
+use std::alloc::AllocError;
 use std::sync::Wait;
-use std::thread;
+use std::{hint, thread};
 
-/// Waits for the turn, and takes the object with its history.
-pub(crate) fn take_turn<O: Serial, R: Wait>(
-    rt: &R,
-    steps: &Steps<O>,
-    seat: &mut Place<O>,
-) -> Held<O, <O as Serial>::Entry>
+/// How often a caller looks whether the lock is free, before it yields its thread.
+const LOOKS: u32 = 100;
+
+/// Takes the lock if it is free, and says whether it did.
+#[inline(always)]
+fn try_take<O: Serial>(steps: &Steps<O>, seat: &mut Place<O>) -> bool
     requires board { (seat.old.table_id ≡ steps.now.table_id) × IsBoard steps.now.table_id }
     requires idle { seat.old.me ≡ (alone (Some steps.now.key.value) Idle (part_of seat.old.me.0), []) }
     ensures board { (seat.new.table_id ≡ seat.old.table_id) × (seat.new.id ≡ seat.old.id) }
-    ensures taken { IsInside O.state O.tag O.by O.steps steps.now.key.value (part_of seat.old.me.0) result None seat.new.me }
+    ensures taken { MatchBool result ((k : _) × IsInside O.state O.tag O.by O.steps steps.now.key.value (part_of seat.old.me.0) k seat.new.me) (seat.new.me ≡ seat.old.me) }
 {
-    let ticket = steps.fetch_add::<Draw>(seat, 0, 1);
+    let word = steps.peek(0);
+    word % 2 == 0 && steps.compare_exchange::<Take<O>>(seat, 0, word, word + 1) == word
+}
+
+/// Waits until the lock is free, and takes it.
+pub(crate) fn take<O: Serial, R: Wait>(rt: &R, steps: &Steps<O>, seat: &mut Place<O>)
+    requires board { (seat.old.table_id ≡ steps.now.table_id) × IsBoard steps.now.table_id }
+    requires idle { seat.old.me ≡ (alone (Some steps.now.key.value) Idle (part_of seat.old.me.0), []) }
+    ensures board { (seat.new.table_id ≡ seat.old.table_id) × (seat.new.id ≡ seat.old.id) }
+    ensures taken { (k : _) × IsInside O.state O.tag O.by O.steps steps.now.key.value (part_of seat.old.me.0) k seat.new.me }
+{
     for _ in rt.forever() {
-        if steps.load::<Look<O>>(seat, 1) == ticket {
-            return steps.exchange(seat, 0, None).unwrap();
+        for _ in 0..LOOKS {
+            if try_take(steps, seat) {
+                return;
+            }
+            hint::spin_loop();
         }
         thread::yield_now();
     }
     unreachable!()
 }
 
-/// Puts the object back, publishes how long its history is, and passes the turn on.
-pub(crate) fn give_turn<O: Serial>(
+/// Makes the step for which the lock was taken, and gives the lock back with the number of entries.
+#[inline(always)]
+pub(crate) fn step_and_give<O: Serial>(
     steps: &Steps<O>,
     seat: &mut Place<O>,
-    held: Held<O, <O as Serial>::Entry>,
-)
+    actor: u32,
+    ev: O::Ev,
+) -> Result<O::Reply, (AllocError, O::Ev)>
     requires board { (seat.old.table_id ≡ steps.now.table_id) × IsBoard steps.now.table_id }
-    requires inside { (t : ℕ) × (l : _) × (seat.old.me ≡ (alone (Some steps.now.key.value) (Inside t l) (part_of seat.old.me.0), (0, None) ∷ [])) × GrowsBy O.by (part_of seat.old.me.0).number l held.log.items }
-    requires kept { IsKept O.state O.tag O.steps steps.now.key.value held.object held.log.items }
+    requires inside { (p : _) × (k : _) × IsInside O.state O.tag O.by O.steps steps.now.key.value p k seat.old.me }
+    requires number { (part_of seat.old.me.0).number ≡ actor }
+    requires fits { O.fits (O.tag steps.now.key.value) ev }
     ensures board { (seat.new.table_id ≡ seat.old.table_id) × (seat.new.id ≡ seat.old.id) }
-    ensures given { seat.new.me ≡ (alone (Some steps.now.key.value) Idle (up_to O.by held.log.items (part_of seat.old.me.0)), []) }
+    ensures idle { seat.new.me ≡ (alone (Some steps.now.key.value) Idle (part_of seat.new.me.0), []) }
+    ensures ok { IfOk result (λ r. AddsTo O.by (O.tells (O.tag steps.now.key.value)) (part_of seat.old.me.0) ev r (part_of seat.new.me.0)) }
+    ensures err { IfErr result (λ r. O.same ev r.1 × (part_of seat.new.me.0 ≡ part_of seat.old.me.0)) }
+    ensures sees { (log : _) × (t : _) × (part_of seat.new.me.0 ≡ up_to O.by log (part_of seat.old.me.0)) × Legal O.steps (O.state steps.now.key.value) log t }
 {
+    let held = seat.slot_mut(steps, 0);
+    let answer = held.step(actor, ev);
     let count = held.log.len() as u64;
-    let left = steps.exchange(seat, 0, Some(held));
-    let None = left else { unreachable!() };
-    steps.store::<Publish<O>>(seat, 2, count);
-    steps.fetch_add::<Pass>(seat, 1, 1);
+    steps.store::<Give<O>>(seat, 0, 2 * count);
+    answer
 }

@@ -1,4 +1,4 @@
-use Rattle.std.proofs.Common.{rules, refl, ◌≡◌, ap, sym, ◌∙◌, subst, length}
+use Rattle.std.proofs.Common.{rules, refl, ◌≡◌, ◌/◌, ap, sym, ◌∙◌, subst, length}
 use mathlib.Core.List.{IsPrefix}
 use Rattle.hist_lock.specs.Histories.{Legal, made_by}
 use Rattle.hist_lock.specs.Callers.{Begun, Known}
@@ -23,7 +23,7 @@ returns-clause-same g c = let rest = rests_at c.who.inside.seat c.who.inside.num
 pub returns-clause-seen : goal.returns-clause-seen
 returns-clause-seen g c = let rest = rests_at c.who.inside.seat c.who.inside.number c.who.inside.splits c.args.who.now c.args.self.now (record { lock = c.self.inside.table.shared.table_id; start = c.self.inside.table.shared.key.value }) c.who.invariant c.who.view_is c.requires.own.1 c.self.view_is in
     let did = counted_is g.O.Serial.state g.O.Serial.by g.O.Serial.steps _ c.load.result _ _ c.load.new.seat.me rest c.load.ensures.2 in
-    of_known c.who.inside.seat c.load.new.seat c.who.inside.number c.who.inside.splits c.args.who.now c.args.self.now (record { lock = c.self.inside.table.shared.table_id; start = c.self.inside.table.shared.key.value }) _ c.who.view_is c.requires.own.1 c.self.view_is c.load.ensures.0 did.1 (λ seen mine. (c.load.result ≡ length seen) × IsPrefix c.args.who.now.seen seen) (did.2, did.3.begins)
+    of_known c.who.inside.seat c.load.new.seat c.who.inside.number c.who.inside.splits c.args.who.now c.args.self.now (record { lock = c.self.inside.table.shared.table_id; start = c.self.inside.table.shared.key.value }) _ c.who.view_is c.requires.own.1 c.self.view_is c.load.ensures.0 did.1 (λ seen mine. (c.load.result / 2 ≡ length seen) × IsPrefix c.args.who.now.seen seen) (did.2, did.3.begins)
 
 pub returns-clause-history : goal.returns-clause-history
 returns-clause-history g c = let rest = rests_at c.who.inside.seat c.who.inside.number c.who.inside.splits c.args.who.now c.args.self.now (record { lock = c.self.inside.table.shared.table_id; start = c.self.inside.table.shared.key.value }) c.who.invariant c.who.view_is c.requires.own.1 c.self.view_is in
