@@ -1,5 +1,5 @@
 #!/bin/sh
-# Times the lock with a history beside a `std::sync::Mutex` round the same counter and history, each with 1, 2 and 4 threads.
+# Times the lock with a history beside a `std::sync::Mutex` round the same counter and history, each with 1, 2, 4 and 18 threads.
 # CALLS is how many calls there are in each run, over all threads; ROUNDS how often each is run, in turn. It prints the median, and the least and the most.
 # Where more is ready to run than there are processors, the times are those of the queue for a processor, and say little of either lock.
 set -eu
@@ -27,7 +27,7 @@ rates() {
     }'
 }
 
-for threads in 1 2 4; do
+for threads in 1 2 4 18; do
     each=$((calls / threads))
     load=$(cut -d ' ' -f 1 /proc/loadavg)
     : >$out/ours
