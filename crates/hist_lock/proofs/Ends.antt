@@ -12,7 +12,7 @@ use Rattle.hist_lock.specs.declared.table.View.{View}
 use Rattle.hist_lock.specs.declared.table.Stage.TheVariants.{Idle}
 use Rattle.hist_lock.specs.Histories.{Legal, IsKept}
 use Rattle.hist_lock.specs.Views.{enters, having, newcomer, no_part}
-use Rattle.hist_lock.specs.Rule.{below, Owns, Knows}
+use Rattle.hist_lock.specs.Rule.{padding, below, Owns, Knows}
 use Rattle.hist_lock.proofs.Counts.{sum-only, two_at_most_sum}
 use Rattle.hist_lock.proofs.Keeps.{Rule}
 
@@ -23,7 +23,7 @@ below-all : (n c : ℕ) → n < c → below n c ≡ 1
 below-all n c h = grind (arith, nat_tests)
 
 module _ {O E S T : Type 0} (state : O → S) (tag : O → T) (by : E → ℕ) (steps : S → E → S → Type 0) (start : O) where
-  pub starts : (k : Held O E) → k.object ≡ start → k.log.items ≡ [] → Rule state tag by steps start (opening (0 ∷ []) (k ∷ []) (newcomer start))
+  pub starts : (k : Held O E) → k.object ≡ start → k.log.items ≡ [] → Rule state tag by steps start (opening (0 ∷ padding) (k ∷ []) (newcomer start))
   starts k same empty = record {
     log = [];
     taken = 0;

@@ -16,7 +16,7 @@ use Rattle.hist_lock.specs.declared.table.Stage.{Stage}
 use Rattle.hist_lock.specs.declared.table.Stage.TheVariants.{Idle, Inside}
 use Rattle.hist_lock.specs.Histories.{Legal, IsKept, GrowsBy}
 use Rattle.hist_lock.specs.Views.{enters, having, spent}
-use Rattle.hist_lock.specs.Rule.{below, Owns, IsUpToDate, Knows, Ruled}
+use Rattle.hist_lock.specs.Rule.{padding, below, Owns, IsUpToDate, Knows, Ruled}
 use Rattle.hist_lock.proofs.Counts.{sum-set, sum-snoc, at_most_sum, two_at_most_sum}
 use Rattle.hist_lock.proofs.Lists.{prefix_more, made_by-others, absent}
 
@@ -55,7 +55,7 @@ module _ {O E S T : Type 0} (state : O → S) (tag : O → T) (by : E → ℕ) (
 
   -- a step of one seat, from the view v to w
   pub moves : (s : St) (r : Rule s) (id : ℕ) (v w : V) (log' : List E) (taken' : ℕ) (words' : List ℕ) (homes' : Homes) → get_elem? s.views id ≡ some v
-      → words' ≡ (2 * length log' + taken') ∷ [] → taken' + enters v.stage ≡ r.taken + enters w.stage → taken' ≤ 1 → (t : S) × Legal steps (state start) log' t → All (λ e. by e < r.callers) log'
+      → words' ≡ (2 * length log' + taken') ∷ padding → taken' + enters v.stage ≡ r.taken + enters w.stage → taken' ≤ 1 → (t : S) × Legal steps (state start) log' t → All (λ e. by e < r.callers) log'
       → length w.parts ≡ length v.parts → ((n : ℕ) → having n w ≡ having n v) → Knows by start log' r.callers w
       → ((j : ℕ) (x : V) → j ≢ id → get_elem? s.views j ≡ some x → Knows by start log' r.callers x)
       → (taken' ≡ 0 → IsHome homes' log') → (taken' ≡ 1 → homes' ≡ none ∷ [])

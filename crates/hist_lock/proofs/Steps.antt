@@ -15,7 +15,7 @@ use Rattle.hist_lock.specs.declared.table.View.{View}
 use Rattle.hist_lock.specs.declared.table.Stage.TheVariants.{Idle, Inside}
 use Rattle.hist_lock.specs.Histories.{Legal, made_by, longer, IsKept, GrowsBy}
 use Rattle.hist_lock.specs.Views.{having, alone, up_to, with_one_more, newest, note_of, informed, gathered, spent}
-use Rattle.hist_lock.specs.Rule.{Owns}
+use Rattle.hist_lock.specs.Rule.{padding, Owns}
 use Rattle.hist_lock.specs.Plays.{tried, IsInside, gave, counted, heard}
 use Rattle.hist_lock.proofs.Lists.{prefix_same, longer_is, made_by-none, made_by-begin, made_by-between, Legal-begin}
 use Rattle.hist_lock.proofs.Keeps.{Rule, test_same, moves, stays, splits, has_lock, others_outside, others_absent, number-lt, below-more, knows_longer, joins}
@@ -48,7 +48,7 @@ module _ {O E S T : Type 0} (state : O → S) (tag : O → T) (by : E → ℕ) (
         takes 0 h,
         ap (λ (hs : List (maybe.Option K)). get_elem? hs 0) home.1,
         moves state tag by steps start s r id v w r.log 1 (set s.words 0 (old + 1)) (set s.homes 0 none) at
-            (ap (λ (ws : List ℕ). set ws 0 (old + 1)) r.words ∙ (let n : old + 1 ≡ 2 * length r.log + 1 = omega arith in ap (λ (n : ℕ). n ∷ []) n)) (omega arith) (omega arith) r.legal r.entries refl (λ _. refl)
+            (ap (λ (ws : List ℕ). set ws 0 (old + 1)) r.words ∙ (let n : old + 1 ≡ 2 * length r.log + 1 = omega arith in ap (λ (n : ℕ). n ∷ padding) n)) (omega arith) (omega arith) r.legal r.entries refl (λ _. refl)
             record {
               same = k.same;
               hears = k.hears;
@@ -71,7 +71,7 @@ module _ {O E S T : Type 0} (state : O → S) (tag : O → T) (by : E → ℕ) (
         gives,
         tt,
         moves state tag by steps start s r id v w log' 0 (set s.words 0 new) (set s.homes 0 (some k)) at
-            (ap (λ (ws : List ℕ). set ws 0 new) r.words ∙ (let n : new ≡ 2 * length log' + 0 = omega arith in ap (λ (n : ℕ). n ∷ []) n)) (omega arith) (omega arith) (state k.object, kept.0)
+            (ap (λ (ws : List ℕ). set ws 0 new) r.words ∙ (let n : new ≡ 2 * length log' + 0 = omega arith in ap (λ (n : ℕ). n ∷ padding) n)) (omega arith) (omega arith) (state k.object, kept.0)
             (All-same (λ (e : E). by e < r.callers) log' (r.log ++ g.0) g.1 (All-append (λ (e : E). by e < r.callers) r.log g.0 r.entries (λ i d b. let is : by (get_or g.0 i d) ≡ p.number = g.2 i d b in omega arith)))
             refl (λ _. refl)
             record {

@@ -23,9 +23,9 @@ pub record Begun (O : Type 0) : Type 0 where
   pub lock : TableId
   pub start : O
 
--- the word and the slot of the table
+-- the words and the slot of the table
 abbrev pub IsBoard : TableId → Type 0
-IsBoard z = (z.words ≡ 1) × (z.slots ≡ 1)
+IsBoard z = (z.words ≡ 16) × (z.slots ≡ 1)
 
 -- the caller has one entry more, at the end of what it has seen, which tells the event and the reply
 abbrev pub AddsTo : {E Ev R : Type 0} → (E → ℕ) → (E → Ev → R → Type 0) → Part E → Ev → R → Part E → Type 0

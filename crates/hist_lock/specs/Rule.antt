@@ -1,5 +1,5 @@
 -- The rule of the table: what holds between any two steps.
-use Rattle.std.specs.Prelude.{◌≡◌, ℕ, ◌+◌, ◌*◌, ◌<◌, ◌≤◌, nat_lt, cond, All, sum_by, List, [], ◌∷◌, length, Some}
+use Rattle.std.specs.Prelude.{◌≡◌, ℕ, ◌+◌, ◌*◌, ◌<◌, ◌≤◌, nat_lt, cond, All, sum_by, List, [], ◌∷◌, length, replicate, Some}
 use mathlib.Core.Option.{none, some}
 use mathlib.Core.List.{IsPrefix}
 use lib.ListN.{get_elem?}
@@ -11,6 +11,10 @@ use Rattle.hist_lock.specs.declared.table.Stage.{Stage}
 use Rattle.hist_lock.specs.declared.table.Stage.TheVariants.{Idle, Inside}
 use Rattle.hist_lock.specs.Histories.{Legal, made_by, IsKept}
 use Rattle.hist_lock.specs.Views.{enters, having, first_part}
+
+-- the words behind the first, which only keep the slot off its cache line
+abbrev pub padding : List ℕ
+padding = replicate 15 0
 
 -- 1 for the number of a caller
 abbrev pub below : ℕ → ℕ → ℕ
@@ -41,7 +45,7 @@ pub record Ruled {O E S T : Type 0} (state : O → S) (tag : O → T) (by : E �
   pub log : List E
   pub taken : ℕ
   pub callers : ℕ
-  pub words : s.words ≡ (2 * length log + taken) ∷ []
+  pub words : s.words ≡ (2 * length log + taken) ∷ padding
   pub inside : sum_by (λ v. enters v.stage) s.views ≡ taken
   pub one : taken ≤ 1
   pub legal : (t : S) × Legal steps (state start) log t

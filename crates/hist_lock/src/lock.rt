@@ -79,7 +79,7 @@ impl<O: Serial> HistLock<O> {
             slots.destroy_empty();
             return Err((AllocError, object_of(value)));
         }
-        match Table::new(alloc, &[0], slots, &start) {
+        match Table::new(alloc, &[0; 16], slots, &start) {
             Ok((table, seat)) => Ok((
                 HistLock { table },
                 Caller {

@@ -1,5 +1,6 @@
 //! The table that the callers share.
-//! Its one word is twice the number of entries, and 1 more while a caller has the lock. Its one slot holds the object and its history.
+//! Its first word is twice the number of entries, and 1 more while a caller has the lock. Its one slot holds the object and its history.
+//! The other words keep the slot off the cache line of the first, at which callers look while they wait.
 use crate::serial::Serial;
 use atomic_table::{Seat, Shared, Table, TableRule};
 use std::alloc::Global;
