@@ -1,5 +1,5 @@
 //! The object with its history, while a caller has them.
-ghost use Rattle.std.specs.Prelude.{◌≡◌, ◌<◌, ◌^◌, length, IfOk, IfErr};
+ghost use Rattle.std.specs.Prelude.{◌≡◌, ◌<◌, ◌^◌, length, vec_len, vec_capacity, OnOk, IfOk, IfErr};
 ghost use Rattle.hist_lock.specs.Histories.{AddsOne};
 
 use crate::serial::Serial;
@@ -8,6 +8,21 @@ use std::alloc::AllocError;
 
 /// The most entries of a history.
 const MOST_ENTRIES: u64 = (1 << 63) - 1;
+
+/// Makes room for one entry more. A full log grows to eight times what it was, since whoever copies it has the lock; without memory for that, by as little as it can.
+#[inline(always)]
+fn make_room<E>(log: &mut Vec<E>) -> Result<(), AllocError>
+    ensures items { log.new.items ≡ log.old.items }
+    ensures room { OnOk result (vec_len log.new < vec_capacity log.new) }
+{
+    if log.len() < log.capacity() {
+        return Ok(());
+    }
+    match log.reserve(log.len().saturating_mul(7).saturating_add(1)) {
+        Ok(()) => Ok(()),
+        Err(_) => log.reserve(1),
+    }
+}
 
 impl<O: Serial> Held<O, <O as Serial>::Entry> {
     /// Makes one step and keeps its entry. There is room for the entry before the step is made, and its number fits the word of the lock.
@@ -19,7 +34,7 @@ impl<O: Serial> Held<O, <O as Serial>::Entry> {
         ensures few { length self.new.log.items < 2 ^ 63 }
         ensures tag { O.tag self.new.object ≡ O.tag self.old.object }
     {
-        if self.log.len() as u64 == MOST_ENTRIES || self.log.reserve(1).is_err() {
+        if self.log.len() as u64 == MOST_ENTRIES || make_room(&mut self.log).is_err() {
             return Err((AllocError, ev));
         }
         let (entry, reply) = self.object.step(actor, ev)?;
