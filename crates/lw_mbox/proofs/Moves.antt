@@ -133,11 +133,12 @@ module _ {T K : Type 0} (fits : K → T → Type 0) (key : K) where
     holding = k.holding;
   }
 
-  pub loads_today : (s : State (Option T) (View T K)) (r : Rule s) (id : ℕ) (v : View T K) → get_elem? s.views id ≡ some v → Loads v.trail.met (get_or s.words 0 0)
-  loads_today s r id v at = let t = today (fits key) r.history r.flags s.words r.counts in record {
+  pub loads_today : (s : State (Option T) (View T K)) (r : Rule s) (id : ℕ) (v : View T K) → get_elem? s.views id ≡ some v → Loads v.trail.met v.got (get_or s.words 0 0)
+  loads_today s r id v at = let t = today (fits key) r.history r.flags s.words r.counts in let k = r.each id v at in let claims = t.claims in record {
     word = t.word;
     exact = exact_today (fits key) r.history r.flags s.words r.counts;
-    newer = newer_now r.history (word_of (get_or s.words 0 0)) t.posts t.claims v.trail.met (r.each id v at).trail.loads;
+    newer = newer_now r.history (word_of (get_or s.words 0 0)) t.posts t.claims v.trail.met k.trail.loads;
+    above = λ i g l. let b = (k.got i g l).below in omega arith;
   }
 
   pub parted : (h : History T) (gs : List (Got T)) → All (IsRight h) gs → PartedAt h.fetched gs

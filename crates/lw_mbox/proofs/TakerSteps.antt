@@ -14,15 +14,15 @@ use Rattle.lw_base.specs.EventWord.{is_set}
 use Rattle.lw_mbox.specs.declared.view.Got.{Got}
 use Rattle.lw_mbox.specs.declared.view.View.{View}
 use Rattle.lw_mbox.specs.Changes.{items, posted, is_on}
-use Rattle.lw_mbox.specs.Trail.{Trail, saw, rests, settings}
-use Rattle.lw_mbox.specs.History.{History, IsRight, times, GotAll, AllBelow}
+use Rattle.lw_mbox.specs.Trail.{Trail, rests, settings}
+use Rattle.lw_mbox.specs.History.{History, claimed_one, IsRight, times, GotAll}
 use Rattle.lw_mbox.specs.Rule.{coded, word_of, Homes, Counts, Knows, Ruled}
 use Rattle.lw_mbox.specs.Plays.{steps, ticket, seen, Loads, loaded, claimed_at, emptied, rested_at, calmed, asks, tallied, tells, Claims}
 use Rattle.lw_mbox.proofs.Rows.{total_at, total_two}
 use Rattle.lw_mbox.proofs.EventWords.{or_coded, and_coded, or_narrow, and_narrow, set_flag, clear_flag, other_flag}
 use Rattle.lw_mbox.proofs.Trails.{Later, same_time, sound_later, all_sound_later, all_right_later}
 use Rattle.lw_mbox.proofs.Rings.{ring_word, ring_claims, ring_empties}
-use Rattle.lw_mbox.proofs.Moves.{times_push, later_same, count_next, today, knows_later, moves, quiet, sees, loads_today, parted, got_all, rests_all}
+use Rattle.lw_mbox.proofs.Moves.{times_push, later_same, count_next, Today, word_today, today, knows_later, moves, quiet, sees, loads_today, parted, got_all, rests_all}
 
 -- how many fetches there are after a claim, with and without CLOSED
 draws : {T : Type 0} (drained : Bool) (h : History T) → is_on Closed h.changes ≡ drained → (is_on Closed h.changes ≡ false → h.fetched ≡ h.claimed) → h.fetched ≤ h.claimed
@@ -92,18 +92,18 @@ module _ {T K : Type 0} (fits : K → T → Type 0) (key : K) where
   -- a claim at the word of today
   claim_hits : (s : State (Option T) (View T K)) (r : Rule s) (slots id : ℕ) (me : M) (drained : Bool) → me.0.lead ≡ false → 0 < me.0.parts → length s.homes ≡ slots → get_elem? s.views id ≡ some me.0
       → (word_of (get_or s.words 0 0)).claimed < (word_of (get_or s.words 0 0)).posted → is_set Closed (word_of (get_or s.words 0 0)).flags ≡ drained
-      → let n : ℕ = get_or s.words 0 0 in let w : Word = word_of n in (x : T) × ((get_elem? s.homes (w.claimed % slots) ≡ some (some (Some x))) × fits key x × AllBelow w.claimed me.0.got
+      → let n : ℕ = get_or s.words 0 0 in let w : Word = word_of n in (x : T) × ((get_elem? s.homes (w.claimed % slots) ≡ some (some (Some x))) × fits key x
       × Rule record {
         words = set s.words 0 (n + 256);
         homes = set s.homes (w.claimed % slots) none;
-        views = set s.views id (record (seen w me.0) { got = me.0.got ++ ticket w.claimed x drained ∷ []; holds = Some w.claimed });
+        views = set s.views id (record (seen (claimed_one w) me.0) { got = me.0.got ++ ticket w.claimed x drained ∷ []; holds = Some w.claimed });
       })
   claim_hits s r slots id me drained plain part deep at left side = let n : ℕ = get_or s.words 0 0 in let w : Word = word_of n in let v : View T K = me.0 in let h : History T = r.history in let c : ℕ = h.claimed in let cap : ℕ = r.cap in
       let counts = r.counts in let ring = r.ring in let wide = ring.wide in let t = today (fits key) h r.flags s.words counts in let ec : w.claimed ≡ c = t.claims in let ep : w.posted ≡ posted h.changes = t.posts in
       let lt : c < length (items h.changes) = omega arith in let q = ring.queue c (omega arith) lt in let x : T = q.1.0 in let d = draws drained h (sym t.closed ∙ side) counts.opens counts.drawn in let f : ℕ = d.0 in
       let d₀ = d.1.0 in let d₃ = d.1.3 in let h' : History T = record { changes = h.changes; claimed = c + 1; fetched = f; rested = h.rested } in
-      let later : Later h h' = same_time h (c + 1) f h.rested (omega arith) d₀ d.1.1 (λ z. z) in let kn = r.each id v at in let kw = sees fits key h r.posting cap s.words id v w plain t kn in
-      let gs : List (Got T) = v.got ++ ticket w.claimed x drained ∷ [] in let u : View T K = record (seen w v) { got = gs; holds = Some w.claimed } in
+      let later : Later h h' = same_time h (c + 1) f h.rested (omega arith) d₀ d.1.1 (λ z. z) in let kn = r.each id v at in
+      let gs : List (Got T) = v.got ++ ticket w.claimed x drained ∷ [] in let left_word : Word = claimed_one w in let u : View T K = record (seen left_word v) { got = gs; holds = Some w.claimed } in
       let same : cap ≡ slots = sym ring.deep ∙ deep in let place : c % cap ≡ w.claimed % slots = λ i. (sym ec i) % (same i) in let ws' : List ℕ = set s.words 0 (n + 256) in
       let event = counts.event in
       let counts' : Counts (fits key) h' r.flags ws' = record {
@@ -117,13 +117,17 @@ module _ {T K : Type 0} (fits : K → T → Type 0) (key : K) where
         dark = counts.dark;
         fit = counts.fit;
       } in
+      let is_left : word_of (get_or ws' 0 0) ≡ left_word = word_today (fits key) h' r.flags ws' counts' ∙ sym (ap claimed_one (word_today (fits key) h r.flags s.words counts)) in
+      let t' : Today h' left_word = subst (Today h') is_left (today (fits key) h' r.flags ws' counts') in
+      let kl = knows_later fits key h h' later r.posting r.posting cap s.words ws' id v (λ e. absurd (false≢true (sym plain ∙ e))) (λ k _ shown _. get_or-set_other s.words 0 (1 + k % cap) (n + 256) 0 (λ e. omega arith) ∙ shown) kn in
+      let kw = sees fits key h' r.posting cap ws' id v left_word plain t' kl in
       let right : IsRight h' (ticket c x drained) = record { below = omega arith; item = q.1.1.0; fetches = d.1.4; drains = d.1.5 } in
       let mine : Knows key h' r.posting cap ws' id u = record {
         keyed = kn.keyed;
         leads = kw.leads;
-        trail = sound_later h h' later (saw v.trail.met w) kw.trail;
-        back = all_sound_later h h' later v.back kn.back;
-        got = All-push (IsRight h') v.got (ticket w.claimed x drained) (all_right_later h h' later v.got kn.got) (subst (λ (z : ℕ). IsRight h' (ticket z x drained)) (sym ec) right);
+        trail = kw.trail;
+        back = kl.back;
+        got = All-push (IsRight h') v.got (ticket w.claimed x drained) kl.got (subst (λ (z : ℕ). IsRight h' (ticket z x drained)) (sym ec) right);
         partless = λ z. absurd (omega arith);
         holding = λ m e. let z : w.claimed ≡ m = some_same w.claimed m e in let zc : c ≡ m = sym ec ∙ z in let some_now : 1 ≤ times m gs = has_ticket v.got (ticket w.claimed x drained) m z in
             (omega arith, subst (λ (j : ℕ). get_or ws' (1 + j % cap) 0 ≡ j) zc (get_or-set_other s.words 0 (1 + c % cap) (n + 256) 0 (λ e. omega arith) ∙ q.0), some_now);
@@ -132,7 +136,6 @@ module _ {T K : Type 0} (fits : K → T → Type 0) (key : K) where
         (
           subst (λ (j : ℕ). get_elem? s.homes j ≡ some (some (Some x))) place q.1.1.1,
           subst (fits key) (at_or (items h.changes) c x x q.1.1.0) (counts.fit c x lt),
-          (λ i g l. let b = (kn.got i g l).below in omega arith),
           subst (λ (j : ℕ). Rule record { words = ws'; homes = set s.homes j none; views = set s.views id u }) place
               (moves fits key s r id v u h' r.flags r.posting ws' (set s.homes (c % cap) none) at later counts' (ring_word (items h.changes) (c + 1) r.posting cap s.words (set s.homes (c % cap) none) (n + 256) (ring_claims (items h.changes) c r.posting cap s.words s.homes ring lt)) mine
               (inr (refl, refl)) (λ j k z _ _ _ shown _. get_or-set_other s.words 0 (1 + k % cap) (n + 256) 0 (λ e. omega arith) ∙ shown)
@@ -145,13 +148,13 @@ module _ {T K : Type 0} (fits : K → T → Type 0) (key : K) where
   claims slots id me drained first plain part left side s r deep at _ = let n : ℕ = get_or s.words 0 0 in let w : Word = word_of n in let t = today (fits key) r.history r.flags s.words r.counts in let k = r.each id me.0 at in
       let l = loads_today fits key s r id me.0 at in dite (ℕ_discrete n first)
       (λ hit. let c = claim_hits s r slots id me drained plain part deep at (subst (λ (m : ℕ). (word_of m).claimed < (word_of m).posted) (sym hit) left) (ap (λ (m : ℕ). is_set Closed (word_of m).flags) hit ∙ side) in
-      let v : View T K = record (seen w me.0) { got = me.0.got ++ ticket w.claimed c.0 drained ∷ []; holds = Some w.claimed } in (
+      let v : View T K = record (seen (claimed_one w) me.0) { got = me.0.got ++ ticket w.claimed c.0 drained ∷ []; holds = Some w.claimed } in (
         v,
         takes (w.claimed % slots) (Some c.0),
         c.1.0,
         subst (λ (b : ℕ). Rule record { words = set s.words 0 b; homes = set s.homes (w.claimed % slots) none; views = set s.views id v })
-            (ap (λ (m : ℕ). m + 256) hit ∙ sym (ap (λ (b : Bool). either b (first + 256) n) (eq-eqb n first hit))) c.1.3,
-        (l, (λ miss. absurd (miss hit)), λ _. (c.0, (refl, refl, (λ j e. subst (λ (z : K). fits z c.0) (sym (k.keyed j e)) c.1.1), c.1.2))),
+            (ap (λ (m : ℕ). m + 256) hit ∙ sym (ap (λ (b : Bool). either b (first + 256) n) (eq-eqb n first hit))) c.1.2,
+        (l, (λ miss. absurd (miss hit)), λ _. (c.0, (refl, refl, (λ j e. subst (λ (z : K). fits z c.0) (sym (k.keyed j e)) c.1.1)))),
       ))
       (λ miss. (
         seen w me.0,
@@ -309,23 +312,22 @@ module _ {T K : Type 0} (fits : K → T → Type 0) (drained : Bool) (slots firs
   pub claimed_ok : (m m' m'' : Me (Option T) (View T K)) (n j : ℕ) (y : T) → n ≡ first → claimed_at fits drained (step slots 0 first (first + 256) none) m n m' → m''.0 ≡ record m'.0 { holds = None } → m''.1 ≡ [] → m'.1 ≡ (j, Some y) ∷ []
       → Claims fits drained first m (Ok y) m''
   claimed_ok m m' m'' n j y hit c is bare slot = let h = c.2 hit in let e : h.0 ≡ y = ap (item_or h.0) (sym h.1.1 ∙ slot) in let word : word_of n ≡ word_of first = ap word_of hit in (
-    is ∙ (ap (λ (v : View T K). let u : View T K = record v { holds = None } in u) h.1.0 ∙ (λ i. record (seen (word i) m.0) { got = m.0.got ++ ticket (word i).claimed (e i) drained ∷ []; holds = None })),
+    is ∙ (ap (λ (v : View T K). let u : View T K = record v { holds = None } in u) h.1.0 ∙ (λ i. record (seen (claimed_one (word i)) m.0) { got = m.0.got ++ ticket (word i).claimed (e i) drained ∷ []; holds = None })),
     bare,
     (λ k q. subst (fits k) e (h.1.2 k q)),
-    subst (λ (w : Word). AllBelow w.claimed m.0.got) word h.1.3,
   )
 
   pub claimed_err : (m m' : Me (Option T) (View T K)) (n : ℕ) → n ≢ first → m.1 ≡ [] → claimed_at fits drained (step slots 0 first (first + 256) none) m n m' → Claims fits drained first m (Err n) m'
   claimed_err m m' n miss bare c = let z = c.1 miss in (miss, c.0, z.0, z.1 ∙ bare)
 
 -- an event word with a ticket to claim has room for the claim
-pub roomy : (t : Trail) (n : ℕ) → Loads t n → (word_of n).claimed < (word_of n).posted → n + 256 < 2 ^ 64
-roomy t n l left = let w = l.word in let a = w.posts in let b = w.flags in let e = l.exact in omega arith
+pub roomy : {T : Type 0} (t : Trail) (gs : List (Got T)) (n : ℕ) → Loads t gs n → (word_of n).claimed < (word_of n).posted → n + 256 < 2 ^ 64
+roomy t gs n l left = let w = l.word in let a = w.posts in let b = w.flags in let e = l.exact in omega arith
 
 -- a word with a ticket to claim, as the code read it
-pub ready_at : (t : Trail) (n : ℕ) (w : Word) → Loads t n → w ≡ word_of n → (w.posted ≡ w.claimed → ⊥) → (w.claimed < w.posted) × (n + 256 < 2 ^ 64)
-ready_at t n w l is some_left = let v = l.word in let a = v.claims in let p : w.posted ≡ (word_of n).posted = ap (λ (z : Word). z.posted) is in let c : w.claimed ≡ (word_of n).claimed = ap (λ (z : Word). z.claimed) is in
-    let left : (word_of n).claimed < (word_of n).posted = lt_from _ _ a (λ e. some_left (p ∙ (e ∙ sym c))) in (omega arith, roomy t n l left)
+pub ready_at : {T : Type 0} (t : Trail) (gs : List (Got T)) (n : ℕ) (w : Word) → Loads t gs n → w ≡ word_of n → (w.posted ≡ w.claimed → ⊥) → (w.claimed < w.posted) × (n + 256 < 2 ^ 64)
+ready_at t gs n w l is some_left = let v = l.word in let a = v.claims in let p : w.posted ≡ (word_of n).posted = ap (λ (z : Word). z.posted) is in let c : w.claimed ≡ (word_of n).claimed = ap (λ (z : Word). z.claimed) is in
+    let left : (word_of n).claimed < (word_of n).posted = lt_from _ _ a (λ e. some_left (p ∙ (e ∙ sym c))) in (omega arith, roomy t gs n l left)
   where
     lt_from : (a b : ℕ) → a ≤ b → (b ≡ a → ⊥) → a < b
     lt_from a b le ne = omega arith

@@ -1,5 +1,5 @@
 -- What all steps on a mailbox have done together, and what one seat may know of it.
-use Rattle.std.specs.Prelude.{◌≡◌, ℕ, ◌^◌, ◌<◌, ◌≤◌, Bool, true, false, cond, ltb, eqb, List, All, sum_by}
+use Rattle.std.specs.Prelude.{◌≡◌, ℕ, ◌+◌, ◌^◌, ◌<◌, ◌≤◌, Bool, true, false, cond, ltb, eqb, List, All, sum_by}
 use mathlib.Core.Option.{some}
 use lib.ListN.{get_elem?}
 use Rattle.lw_base.specs.declared.event_word.Flag.TheVariants.{Rest, Closed}
@@ -24,6 +24,10 @@ pub record IsWord (w : Word) : Type 0 where
   pub posts : w.posted < 2 ^ 28
   pub claims : w.claimed ≤ w.posted
   pub flags : w.flags < 2 ^ 8
+
+-- the word that a claim leaves
+abbrev pub claimed_one : Word → Word
+claimed_one w = record w { claimed = w.claimed + 1 }
 
 -- CLOSED stands in the word
 abbrev pub IsClosed : Word → Type 0

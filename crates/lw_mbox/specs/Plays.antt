@@ -1,5 +1,5 @@
 -- What each step on a mailbox's table tells, and how a seat's knowledge is cut and joined.
-use Rattle.std.specs.Prelude.{◌≡◌, ◌≢◌, ℕ, ◌+◌, ◌-◌, ◌%◌, ◌≤◌, Bool, true, false, [], ◌∷◌, ◌++◌, Option, Some, None, Result, Ok, Err}
+use Rattle.std.specs.Prelude.{◌≡◌, ◌≢◌, ℕ, ◌+◌, ◌-◌, ◌%◌, ◌≤◌, Bool, true, false, [], ◌∷◌, ◌++◌, List, Option, Some, None, Result, Ok, Err}
 use Rattle.atomic_table.specs.Table.{Me, Step}
 use Rattle.lw_base.specs.declared.event_word.Word.{Word}
 use Rattle.lw_mbox.specs.declared.view.Change.TheVariants.{Post, Set, Clear}
@@ -8,7 +8,7 @@ use Rattle.lw_mbox.specs.declared.view.Steps.{Steps}
 use Rattle.lw_mbox.specs.declared.view.View.{View}
 use Rattle.lw_mbox.specs.Changes.{flag_at, Shows, posted}
 use Rattle.lw_mbox.specs.Trail.{Trail, start, saw, rests, both, IsNewer}
-use Rattle.lw_mbox.specs.History.{IsWord, times, GotAll, Parted, AllBelow, Told}
+use Rattle.lw_mbox.specs.History.{IsWord, claimed_one, times, GotAll, Parted, AllBelow, Told}
 use Rattle.lw_mbox.specs.Rule.{word_of, code_of}
 
 abbrev pub steps : Trail → Steps
@@ -19,11 +19,12 @@ module _ {T : Type 0} where
   abbrev pub ticket : ℕ → T → Bool → Got T
   ticket n x drained = record { ticket = n; item = x; drained = drained }
 
--- the number found is an event word, and no load of the trail is newer
-pub record Loads (t : Trail) (n : ℕ) : Type 0 where
-  pub word : IsWord (word_of n)
-  pub exact : n ≡ code_of (word_of n)
-  pub newer : IsNewer t (word_of n)
+  -- the number found is an event word. No load of the trail is newer, and each ticket that was got is below its claims
+  pub record Loads (t : Trail) (got : List (Got T)) (n : ℕ) : Type 0 where
+    pub word : IsWord (word_of n)
+    pub exact : n ≡ code_of (word_of n)
+    pub newer : IsNewer t (word_of n)
+    pub above : AllBelow (word_of n).claimed got
 
 abbrev Seen : Type 0 → Type 0 → Type 0
 Seen T K = Me (Option T) (View T K)
@@ -73,21 +74,21 @@ module _ {T K : Type 0} where
       × IsWord (word_of n) × Shows m.0.changes (word_of n)
 
   abbrev pub loaded : At T → Seen T K → ℕ → Seen T K → Type 0
-  loaded st m n m' = (m'.0 ≡ seen (word_of n) m.0) × (m'.1 ≡ m.1) × Loads m.0.trail.met n
+  loaded st m n m' = (m'.0 ≡ seen (word_of n) m.0) × (m'.1 ≡ m.1) × Loads m.0.trail.met m.0.got n
       × Parted m.0.got × (m.0.parts ≡ 256 → GotAll (word_of n).claimed m.0.got)
 
-  -- a load too; where it found the word that was expected, a ticket was claimed and its slot taken
+  -- a load too; where it found the word that was expected, a ticket was claimed and its slot taken, and the word that it left was seen
   abbrev pub claimed_at : (K → T → Type 0) → Bool → At T → Seen T K → ℕ → Seen T K → Type 0
-  claimed_at fits drained st m n m' = Loads m.0.trail.met n
+  claimed_at fits drained st m n m' = Loads m.0.trail.met m.0.got n
       × (n ≢ st.first → (m'.0 ≡ seen (word_of n) m.0) × (m'.1 ≡ m.1))
-      × (n ≡ st.first → (x : T) × ((m'.0 ≡ record (seen (word_of n) m.0) { got = m.0.got ++ ticket (word_of n).claimed x drained ∷ []; holds = Some (word_of n).claimed })
-      × (m'.1 ≡ ((word_of n).claimed % st.slots, Some x) ∷ m.1) × ((k : K) → m.0.key ≡ Some k → fits k x) × AllBelow (word_of n).claimed m.0.got))
+      × (n ≡ st.first → (x : T) × ((m'.0 ≡ record (seen (claimed_one (word_of n)) m.0) { got = m.0.got ++ ticket (word_of n).claimed x drained ∷ []; holds = Some (word_of n).claimed })
+      × (m'.1 ≡ ((word_of n).claimed % st.slots, Some x) ∷ m.1) × ((k : K) → m.0.key ≡ Some k → fits k x)))
 
   -- what a try to claim at the word expected answers, and how it leaves the seat: with the item whose place was emptied, or with another word
   abbrev pub Claims : (K → T → Type 0) → Bool → ℕ → Seen T K → Result T ℕ → Seen T K → Type 0
-  Claims fits drained first m (Ok x) m' = (m'.0 ≡ record (seen (word_of first) m.0) { got = m.0.got ++ ticket (word_of first).claimed x drained ∷ []; holds = None })
-      × (m'.1 ≡ []) × ((k : K) → m.0.key ≡ Some k → fits k x) × AllBelow (word_of first).claimed m.0.got
-  Claims fits drained first m (Err n) m' = (n ≢ first) × Loads m.0.trail.met n × (m'.0 ≡ seen (word_of n) m.0) × (m'.1 ≡ [])
+  Claims fits drained first m (Ok x) m' = (m'.0 ≡ record (seen (claimed_one (word_of first)) m.0) { got = m.0.got ++ ticket (word_of first).claimed x drained ∷ []; holds = None })
+      × (m'.1 ≡ []) × ((k : K) → m.0.key ≡ Some k → fits k x)
+  Claims fits drained first m (Err n) m' = (n ≢ first) × Loads m.0.trail.met m.0.got n × (m'.0 ≡ seen (word_of n) m.0) × (m'.1 ≡ [])
 
   abbrev pub emptied : At T → Seen T K → ℕ → Seen T K → Type 0
   emptied st m n m' = (m'.0 ≡ record m.0 { holds = None }) × (m'.1 ≡ [])

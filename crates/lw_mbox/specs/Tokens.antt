@@ -18,7 +18,7 @@ use Rattle.lw_mbox.specs.declared.answers.Drain.{Drain}
 use Rattle.lw_mbox.specs.declared.answers.Drain.TheVariants as drain
 use Rattle.lw_mbox.specs.Changes.{posted}
 use Rattle.lw_mbox.specs.Trail.{Trail, saw, rests, IsNewer}
-use Rattle.lw_mbox.specs.History.{IsWord, IsClosed, IsOpen, AllBelow, Parted, GotAll}
+use Rattle.lw_mbox.specs.History.{IsWord, claimed_one, IsClosed, IsOpen, AllBelow, Parted, GotAll}
 use Rattle.lw_mbox.specs.Plays.{ticket}
 
 -- a mailbox, what its items fit
@@ -77,25 +77,31 @@ module _ {T K : Type 0} where
   abbrev pub sees : Hand T K → Word → Hand T K
   sees h w = record h { trail = saw h.trail w }
 
-  -- the word's next ticket t was claimed, with its item x, and is above every ticket that the Taker had. The claim saw the word that it left
+  -- a word that a Taker may be answered: nothing that it saw is newer, and each ticket that it had is below the word's claims
+  pub record IsAnswer (h : Hand T K) (w : Word) : Type 0 where
+    pub word : IsWord w
+    pub newer : IsNewer h.trail w
+    pub above : AllBelow w.claimed h.got
+
+  -- the word's next ticket t was claimed, with its item x. The claim saw the word that it left
   abbrev pub Gets : (T → Type 0) → Bool → Hand T K → Word → ℕ → T → Hand T K → Type 0
-  Gets fits drained h w t x e = (t ≡ w.claimed) × (w.claimed < w.posted) × fits x × AllBelow t h.got
-      × (e ≡ record (sees (sees h w) w) { got = h.got ++ ticket t x drained ∷ [] })
+  Gets fits drained h w t x e = (t ≡ w.claimed) × (w.claimed < w.posted) × fits x
+      × (e ≡ record (sees (sees h w) (claimed_one w)) { got = h.got ++ ticket t x drained ∷ [] })
 
   -- what a fetch for a side answers, by the word that it loaded, and how it leaves the Taker
   abbrev pub Fetches : (T → Type 0) → Side → Hand T K → Fetch T → Hand T K → Type 0
-  Fetches fits side h (fetch.Item t x) e = (w : Word) × (IsWord w × IsNewer h.trail w × IsOpen w × IsFor side w × Gets fits false h w t x e)
-  Fetches fits side h (fetch.Closed w) e = IsWord w × IsNewer h.trail w × IsClosed w × (e ≡ sees h w)
-  Fetches fits side h (fetch.Other w) e = IsWord w × IsNewer h.trail w × IsOpen w × (¬ IsFor side w) × (e ≡ sees h w)
-  Fetches fits side h (fetch.Empty w) e = IsWord w × IsNewer h.trail w × IsOpen w × IsFor side w × (w.posted ≡ w.claimed) × (e ≡ sees h w)
-  Fetches fits side h (fetch.Busy v w) e = IsWord v × IsNewer h.trail v × IsOpen v × IsFor side v × (v.claimed < v.posted) × IsWord w × IsNewer (saw h.trail v) w × (v ≢ w) × (e ≡ sees (sees h v) w)
+  Fetches fits side h (fetch.Item t x) e = (w : Word) × (IsAnswer h w × IsOpen w × IsFor side w × Gets fits false h w t x e)
+  Fetches fits side h (fetch.Closed w) e = IsAnswer h w × IsClosed w × (e ≡ sees h w)
+  Fetches fits side h (fetch.Other w) e = IsAnswer h w × IsOpen w × (¬ IsFor side w) × (e ≡ sees h w)
+  Fetches fits side h (fetch.Empty w) e = IsAnswer h w × IsOpen w × IsFor side w × (w.posted ≡ w.claimed) × (e ≡ sees h w)
+  Fetches fits side h (fetch.Busy v w) e = IsAnswer h v × IsOpen v × IsFor side v × (v.claimed < v.posted) × IsAnswer (sees h v) w × (v ≢ w) × (e ≡ sees (sees h v) w)
 
   -- what a drain answers, by the word that it loaded, and how it leaves the Taker
   abbrev pub Drains : (T → Type 0) → Hand T K → Drain T → Hand T K → Type 0
-  Drains fits h (drain.Item t x) e = (w : Word) × (IsWord w × IsNewer h.trail w × IsClosed w × Gets fits true h w t x e)
-  Drains fits h (drain.Done w) e = IsWord w × IsNewer h.trail w × IsClosed w × (w.posted ≡ w.claimed) × (e ≡ sees h w) × Parted h.got × (h.parts ≡ 256 → GotAll w.posted h.got)
-  Drains fits h (drain.Alive w) e = IsWord w × IsNewer h.trail w × IsOpen w × (e ≡ sees h w)
-  Drains fits h (drain.Busy v w) e = IsWord v × IsNewer h.trail v × IsClosed v × (v.claimed < v.posted) × IsWord w × IsNewer (saw h.trail v) w × (v ≢ w) × (e ≡ sees (sees h v) w)
+  Drains fits h (drain.Item t x) e = (w : Word) × (IsAnswer h w × IsClosed w × Gets fits true h w t x e)
+  Drains fits h (drain.Done w) e = IsAnswer h w × IsClosed w × (w.posted ≡ w.claimed) × (e ≡ sees h w) × Parted h.got × (h.parts ≡ 256 → GotAll w.posted h.got)
+  Drains fits h (drain.Alive w) e = IsAnswer h w × IsOpen w × (e ≡ sees h w)
+  Drains fits h (drain.Busy v w) e = IsAnswer h v × IsClosed v × (v.claimed < v.posted) × IsAnswer (sees h v) w × (v ≢ w) × (e ≡ sees (sees h v) w)
 
   -- a Taker after it set REST, or cleared it
   abbrev pub rested : Bool → Hand T K → Hand T K

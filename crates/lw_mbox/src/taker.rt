@@ -1,10 +1,10 @@
 //! One that fetches and drains.
 ghost use Rattle.std.specs.Prelude.{◌≡◌, ◌≢◌, ℕ, ◌+◌, ◌-◌, ◌%◌, ◌<◌, ◌≤◌, ◌^◌, ◌++◌, ◌↔◌, [], ◌∷◌, Some, None, true, false, IsTrue};
-ghost use Rattle.lw_mbox.specs.Trail.{start, met, both, IsNewer};
+ghost use Rattle.lw_mbox.specs.Trail.{start, met, both};
 ghost use Rattle.lw_mbox.specs.Rule.{word_of};
 ghost use Rattle.lw_mbox.specs.Plays.{Claims};
-ghost use Rattle.lw_mbox.specs.History.{IsWord, IsOpen, IsClosed, Parted, GotAll, times};
-ghost use Rattle.lw_mbox.specs.Tokens.{IsOf, IsFor, sees, Fetches, Drains, rested};
+ghost use Rattle.lw_mbox.specs.History.{IsOpen, IsClosed, Parted, GotAll, times};
+ghost use Rattle.lw_mbox.specs.Tokens.{IsOf, IsFor, IsAnswer, sees, Fetches, Drains, rested};
 
 use crate::answers::{Drain, Fetch, Side};
 use crate::mbox::Mbox;
@@ -98,8 +98,7 @@ impl<T: Mail<K>, K> Taker<T, K> {
     pub fn word(&mut self, mbox: &Mbox<T, K>) -> Word
         requires own { IsOf mbox.now self.old.board self.old.key }
         ensures after { self.new ≡ sees self.old result }
-        ensures word { IsWord result }
-        ensures newer { IsNewer self.old.trail result }
+        ensures answer { IsAnswer self.old result }
         ensures parted { Parted self.old.got }
         ensures all { self.old.parts ≡ 256 → GotAll result.claimed self.old.got }
     {
@@ -127,8 +126,7 @@ impl<T: Mail<K>, K> Taker<T, K> {
         requires own { IsOf mbox.now self.old.board self.old.key }
         requires theirs { IsOf mbox.now note.board note.key }
         ensures after { self.new ≡ sees (record self.old { trail = both self.old.trail (met start note.changes) }) result }
-        ensures word { IsWord result }
-        ensures newer { IsNewer self.old.trail result }
+        ensures answer { IsAnswer self.old result }
     {
         mbox.table
             .shared
