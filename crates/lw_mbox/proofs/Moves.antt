@@ -15,7 +15,7 @@ use Rattle.lw_mbox.specs.declared.view.Got.{Got}
 use Rattle.lw_mbox.specs.declared.view.View.{View}
 use Rattle.lw_mbox.specs.Changes.{items, posted, is_on, Shows}
 use Rattle.lw_mbox.specs.History.{History, IsWord, Bounded, IsRight, times, PartedAt, GotAll}
-use Rattle.lw_mbox.specs.Rule.{code_of, word_of, Ring, Homes, Counts, Knows, rests_of, Ruled}
+use Rattle.lw_mbox.specs.Rule.{code_of, word_of, Ring, Homes, Counts, Knows, Ruled}
 use Rattle.lw_mbox.specs.Plays.{seen, Loads}
 use Rattle.lw_mbox.proofs.Rows.{total_set, total_at, total_one}
 use Rattle.lw_mbox.proofs.EventWords.{word_coded}
@@ -96,7 +96,7 @@ module _ {T K : Type 0} (fits : K → T → Type 0) (key : K) where
       → (v.lead ≡ true) ⊎ ((h'.changes ≡ r.history.changes) × (p' ≡ r.posting))
       → ((j k : ℕ) (u : View T K) → j ≢ id → get_elem? s.views j ≡ some u → u.holds ≡ Some k → get_or s.words (1 + k % r.cap) 0 ≡ k → 1 ≤ times k u.got → get_or ws' (1 + k % r.cap) 0 ≡ k)
       → ((n : ℕ) → times n w.got + cond (ltb n r.history.claimed) 1 0 ≡ times n v.got + cond (ltb n h'.claimed) 1 0)
-      → w.parts ≡ v.parts → rests_of v ≤ rests_of w → (h'.rested ≡ true → (r.history.rested ≡ true) ⊎ (1 ≤ rests_of w))
+      → w.parts ≡ v.parts → v.settings ≤ w.settings → (h'.rested ≡ true → (r.history.rested ≡ true) ⊎ (1 ≤ w.settings))
       → Rule record { words = ws'; homes = hs'; views = set s.views id w }
   moves s r id v w h' flags' p' ws' hs' at later counts ring mine lead held got parts more rested = record {
     history = h';
@@ -111,12 +111,12 @@ module _ {T K : Type 0} (fits : K → T → Type 0) (key : K) where
         (λ k a b c. held j k u t.0 t.1 a b c) (r.each j u t.1)) (at_set s.views id j w u e);
     once = λ n. let t = total_set (λ x. times n x.got) s.views id v w at in let o = r.once n in let g = got n in omega arith;
     whole = let t = total_set (λ x. x.parts) s.views id v w at in let o = r.whole in omega arith;
-    rests = λ e. let t = total_set rests_of s.views id v w at in let u = total_at rests_of s.views id v at in ⊎_elim (λ (a : r.history.rested ≡ true). let o = r.rests a in omega arith) (λ b. omega arith) (rested e);
+    rests = λ e. let t = total_set (λ x. x.settings) s.views id v w at in let u = total_at (λ x. x.settings) s.views id v at in ⊎_elim (λ (a : r.history.rested ≡ true). let o = r.rests a in omega arith) (λ b. omega arith) (rested e);
   }
 
   -- a load of the word i, or a step that leaves it as it was
   pub quiet : (s : State (Option T) (View T K)) (r : Rule s) (id i : ℕ) (v w : View T K) → get_elem? s.views id ≡ some v → Knows key r.history r.posting r.cap s.words id w
-      → w.got ≡ v.got → w.parts ≡ v.parts → rests_of v ≤ rests_of w → Rule record { words = set s.words i (get_or s.words i 0); homes = s.homes; views = set s.views id w }
+      → w.got ≡ v.got → w.parts ≡ v.parts → v.settings ≤ w.settings → Rule record { words = set s.words i (get_or s.words i 0); homes = s.homes; views = set s.views id w }
   quiet s r id i v w at mine got parts more = subst (λ (ws : List ℕ). Rule record { words = ws; homes = s.homes; views = set s.views id w }) (sym (set-get_or s.words i 0))
       (moves s r id v w r.history r.flags r.posting s.words s.homes at (later_same r.history) r.counts r.ring mine (inr (refl, refl)) (λ j k u a b c d e. d)
       (λ n. ap (λ (g : List (Got T)). times n g + cond (ltb n r.history.claimed) 1 0) got) parts more (λ e. inl e))
@@ -141,6 +141,22 @@ module _ {T K : Type 0} (fits : K → T → Type 0) (key : K) where
     above = λ i g l. let b = (k.got i g l).below in omega arith;
   }
 
+  -- what a seat knows where its step leaves m as the event word and the places as they were
+  pub leaves : (s : State (Option T) (View T K)) (r : Rule s) (id : ℕ) (v : View T K) (h' : History T) (flags' m : ℕ) (ws' : List ℕ) → v.lead ≡ false → get_elem? s.views id ≡ some v → Later r.history h' → Counts (fits key) h' flags' ws'
+      → get_or ws' 0 0 ≡ m → ((j : ℕ) → get_or ws' (1 + j) 0 ≡ get_or s.words (1 + j) 0)
+      → Knows key h' r.posting r.cap ws' id (seen (word_of m) v) × Loads v.trail.met v.got m × ((word_of m).flags ≡ flags')
+  leaves s r id v h' flags' m ws' plain at later counts is places = let k = knows_later r.history h' later r.posting r.posting r.cap s.words ws' id v (λ e. absurd (false≢true (sym plain ∙ e))) (λ n _ shown _. places (n % r.cap) ∙ shown) (r.each id v at) in
+      let here = word_today (fits key) h' flags' ws' counts in let t = subst (λ (n : ℕ). Today h' (word_of n)) is (today (fits key) h' flags' ws' counts) in let claims = t.claims in (
+        sees h' r.posting r.cap ws' id v (word_of m) plain t k,
+        record {
+          word = t.word;
+          exact = subst (λ (n : ℕ). n ≡ code_of (word_of n)) is (exact_today (fits key) h' flags' ws' counts);
+          newer = newer_now h' (word_of m) t.posts t.claims v.trail.met k.trail.loads;
+          above = λ i g l. let b = (k.got i g l).below in omega arith;
+        },
+        ap (λ (n : ℕ). (word_of n).flags) (sym is) ∙ ap (λ (w : Word). w.flags) here,
+      )
+
   pub parted : (h : History T) (gs : List (Got T)) → All (IsRight h) gs → PartedAt h.fetched gs
   parted h gs a = All-weaker (IsRight h) (λ g. (g.drained ≡ false → g.ticket < h.fetched) × (g.drained ≡ true → h.fetched ≤ g.ticket)) (λ g k. (k.fetches, λ e. (k.drains e).1)) gs a
 
@@ -148,5 +164,5 @@ module _ {T K : Type 0} (fits : K → T → Type 0) (key : K) where
   pub got_all : (s : State (Option T) (View T K)) (r : Rule s) (id : ℕ) (v : View T K) → get_elem? s.views id ≡ some v → v.parts ≡ 256 → GotAll r.history.claimed v.got
   got_all s r id v at all t = sym (total_one (λ u. u.parts) (λ u. times t u.got) s.views id v at (r.whole ∙ sym all) (λ j u a z. ap (times t) ((r.each j u a).partless z).0)) ∙ r.once t
 
-  pub rests_all : (s : State (Option T) (View T K)) (r : Rule s) (id : ℕ) (v : View T K) → get_elem? s.views id ≡ some v → v.parts ≡ 256 → r.history.rested ≡ true → 1 ≤ rests_of v
-  rests_all s r id v at all e = let o = r.rests e in let t = total_one (λ u. u.parts) rests_of s.views id v at (r.whole ∙ sym all) (λ j u a z. ((r.each j u a).partless z).1) in omega arith
+  pub rests_all : (s : State (Option T) (View T K)) (r : Rule s) (id : ℕ) (v : View T K) → get_elem? s.views id ≡ some v → v.parts ≡ 256 → r.history.rested ≡ true → 1 ≤ v.settings
+  rests_all s r id v at all e = let o = r.rests e in let t = total_one (λ u. u.parts) (λ u. u.settings) s.views id v at (r.whole ∙ sym all) (λ j u a z. ((r.each j u a).partless z).1) in omega arith

@@ -14,15 +14,15 @@ use Rattle.lw_base.specs.EventWord.{is_set}
 use Rattle.lw_mbox.specs.declared.view.Got.{Got}
 use Rattle.lw_mbox.specs.declared.view.View.{View}
 use Rattle.lw_mbox.specs.Changes.{items, posted, is_on}
-use Rattle.lw_mbox.specs.Trail.{Trail, rests, settings}
+use Rattle.lw_mbox.specs.Trail.{Trail}
 use Rattle.lw_mbox.specs.History.{History, claimed_one, IsRight, times, GotAll}
 use Rattle.lw_mbox.specs.Rule.{coded, word_of, Homes, Counts, Knows, Ruled}
-use Rattle.lw_mbox.specs.Plays.{steps, ticket, seen, Loads, loaded, claimed_at, emptied, rested_at, calmed, asks, tallied, tells, Claims}
+use Rattle.lw_mbox.specs.Plays.{ticket, seen, Loads, loaded, claimed_at, emptied, rested_at, calmed, asks, tallied, tells, Claims}
 use Rattle.lw_mbox.proofs.Rows.{total_at, total_two}
 use Rattle.lw_mbox.proofs.EventWords.{or_coded, and_coded, or_narrow, and_narrow, set_flag, clear_flag, other_flag}
-use Rattle.lw_mbox.proofs.Trails.{Later, same_time, sound_later, all_sound_later, all_right_later}
+use Rattle.lw_mbox.proofs.Trails.{Later, same_time}
 use Rattle.lw_mbox.proofs.Rings.{ring_word, ring_claims, ring_empties}
-use Rattle.lw_mbox.proofs.Moves.{times_push, later_same, count_next, Today, word_today, today, knows_later, moves, quiet, sees, loads_today, parted, got_all, rests_all}
+use Rattle.lw_mbox.proofs.Moves.{times_push, later_same, count_next, Today, word_today, today, knows_later, moves, quiet, leaves, sees, loads_today, parted, got_all, rests_all}
 
 -- how many fetches there are after a claim, with and without CLOSED
 draws : {T : Type 0} (drained : Bool) (h : History T) → is_on Closed h.changes ≡ drained → (is_on Closed h.changes ≡ false → h.fetched ≡ h.claimed) → h.fetched ≤ h.claimed
@@ -194,11 +194,12 @@ module _ {T K : Type 0} (fits : K → T → Type 0) (key : K) where
 
   -- REST is set
   pub sets_rest : (slots id : ℕ) (me : M) → me.0.lead ≡ false → 0 < me.0.parts → Allows Rule slots id me 0 (λ n. bit_or n 2) (rested_at (step slots 0 2 0 none) me)
-  sets_rest slots id me plain part s r deep at _ = let n : ℕ = get_or s.words 0 0 in let v : View T K = me.0 in let h : History T = r.history in let counts = r.counts in let wide = r.ring.wide in let kn = r.each id v at in
-      let w : View T K = record v { trail = steps (rests v.trail.met) } in let flags' : ℕ = bit_or r.flags 2 in let h' : History T = record { changes = h.changes; claimed = h.claimed; fetched = h.fetched; rested = true } in
-      let later : Later h h' = same_time h h.claimed h.fetched true (omega arith) (omega arith) (λ _. refl) (λ _. refl) in let ws' : List ℕ = set s.words 0 (bit_or n 2) in
+  sets_rest slots id me plain part s r deep at _ = let n : ℕ = get_or s.words 0 0 in let v : View T K = me.0 in let h : History T = r.history in let counts = r.counts in let wide = r.ring.wide in let m : ℕ = bit_or n 2 in
+      let w : View T K = record (seen (word_of m) v) { settings = v.settings + 1 } in let flags' : ℕ = bit_or r.flags 2 in let h' : History T = record { changes = h.changes; claimed = h.claimed; fetched = h.fetched; rested = true } in
+      let later : Later h h' = same_time h h.claimed h.fetched true (omega arith) (omega arith) (λ _. refl) (λ _. refl) in let ws' : List ℕ = set s.words 0 m in let same = get_or-set_same s.words 0 m 0 (omega arith) in
+      let places = λ (j : ℕ). get_or-set_other s.words 0 (1 + j) m 0 (λ e. omega arith) in
       let counts' : Counts (fits key) h' flags' ws' = record {
-        event = get_or-set_same s.words 0 (bit_or n 2) 0 (omega arith) ∙ (ap (λ (z : ℕ). bit_or z 2) counts.event ∙ or_coded (posted h.changes) h.claimed r.flags 2 counts.narrow (omega arith));
+        event = same ∙ (ap (λ (z : ℕ). bit_or z 2) counts.event ∙ or_coded (posted h.changes) h.claimed r.flags 2 counts.narrow (omega arith));
         few = counts.few;
         claims = counts.claims;
         narrow = or_narrow r.flags 2 counts.narrow (omega arith);
@@ -208,30 +209,23 @@ module _ {T K : Type 0} (fits : K → T → Type 0) (key : K) where
         dark = λ _. refl;
         fit = counts.fit;
       } in
-      let sound = sound_later h h' later v.trail.met kn.trail in
-      let mine : Knows key h' r.posting r.cap ws' id w = record {
-        keyed = kn.keyed;
-        leads = λ e. absurd (false≢true (sym plain ∙ e));
-        trail = record { stands = sound.stands; loads = sound.loads };
-        back = all_sound_later h h' later v.back kn.back;
-        got = all_right_later h h' later v.got kn.got;
-        partless = λ z. absurd (omega arith);
-        holding = λ m e. let o = kn.holding m e in (o.0, get_or-set_other s.words 0 (1 + m % r.cap) (bit_or n 2) 0 (λ e. omega arith) ∙ o.1, o.2);
-      } in (
+      let left = leaves fits key s r id v h' flags' m ws' plain at later counts' same places in let k = left.0 in
+      let mine : Knows key h' r.posting r.cap ws' id w = record { keyed = k.keyed; leads = k.leads; trail = k.trail; back = k.back; got = k.got; partless = λ z. absurd (omega arith); holding = k.holding } in (
         w,
         keeps,
         tt,
-        moves fits key s r id v w h' flags' r.posting ws' s.homes at later counts' (ring_word (items h.changes) h.claimed r.posting r.cap s.words s.homes (bit_or n 2) r.ring) mine (inr (refl, refl))
-            (λ j k z _ _ _ shown _. get_or-set_other s.words 0 (1 + k % r.cap) (bit_or n 2) 0 (λ e. omega arith) ∙ shown) (λ _. refl) refl (omega arith) (λ _. inr (omega arith)),
-        (refl, refl),
+        moves fits key s r id v w h' flags' r.posting ws' s.homes at later counts' (ring_word (items h.changes) h.claimed r.posting r.cap s.words s.homes m r.ring) mine (inr (refl, refl))
+            (λ j k z _ _ _ shown _. places (k % r.cap) ∙ shown) (λ _. refl) refl (omega arith) (λ _. inr (omega arith)),
+        (refl, refl, left.1, ap (is_set Rest) left.2 ∙ set_flag Rest Rest r.flags),
       )
 
   -- REST is cleared
-  pub clears_rest : (slots id : ℕ) (me : M) → Allows Rule slots id me 0 (λ n. bit_and n 18446744073709551613) (calmed (step slots 0 18446744073709551613 0 none) me)
-  clears_rest slots id me s r deep at _ = let n : ℕ = get_or s.words 0 0 in let v : View T K = me.0 in let h : History T = r.history in let counts = r.counts in let wide = r.ring.wide in let kn = r.each id v at in
-      let mask : ℕ = 18446744073709551613 in let flags' : ℕ = bit_and r.flags 253 in let ws' : List ℕ = set s.words 0 (bit_and n mask) in let few = counts.few in let below = counts.claims in
+  pub clears_rest : (slots id : ℕ) (me : M) → me.0.lead ≡ false → Allows Rule slots id me 0 (λ n. bit_and n 18446744073709551613) (calmed (step slots 0 18446744073709551613 0 none) me)
+  clears_rest slots id me plain s r deep at _ = let n : ℕ = get_or s.words 0 0 in let v : View T K = me.0 in let h : History T = r.history in let counts = r.counts in let wide = r.ring.wide in let m : ℕ = bit_and n 18446744073709551613 in
+      let w : View T K = seen (word_of m) v in let flags' : ℕ = bit_and r.flags 253 in let ws' : List ℕ = set s.words 0 m in let few = counts.few in let below = counts.claims in let same = get_or-set_same s.words 0 m 0 (omega arith) in
+      let places = λ (j : ℕ). get_or-set_other s.words 0 (1 + j) m 0 (λ e. omega arith) in
       let counts' : Counts (fits key) h flags' ws' = record {
-        event = get_or-set_same s.words 0 (bit_and n mask) 0 (omega arith) ∙ (ap (λ (z : ℕ). bit_and z mask) counts.event ∙ and_coded (posted h.changes) h.claimed r.flags 2 few (omega arith) counts.narrow (omega arith));
+        event = same ∙ (ap (λ (z : ℕ). bit_and z 18446744073709551613) counts.event ∙ and_coded (posted h.changes) h.claimed r.flags 2 few (omega arith) counts.narrow (omega arith));
         few = few;
         claims = below;
         narrow = and_narrow r.flags 253 counts.narrow;
@@ -241,13 +235,13 @@ module _ {T K : Type 0} (fits : K → T → Type 0) (key : K) where
         dark = λ e. absurd (false≢true (sym (clear_flag Rest Rest r.flags) ∙ e));
         fit = counts.fit;
       } in
-      let mine : Knows key h r.posting r.cap ws' id v = knows_later fits key h h (later_same h) r.posting r.posting r.cap s.words ws' id v (λ _. (refl, refl)) (λ m e shown _. get_or-set_other s.words 0 (1 + m % r.cap) (bit_and n mask) 0 (λ e. omega arith) ∙ shown) kn in (
-        v,
+      let left = leaves fits key s r id v h flags' m ws' plain at (later_same h) counts' same places in (
+        w,
         keeps,
         tt,
-        moves fits key s r id v v h flags' r.posting ws' s.homes at (later_same h) counts' (ring_word (items h.changes) h.claimed r.posting r.cap s.words s.homes (bit_and n mask) r.ring) mine (inr (refl, refl))
-            (λ j k z _ _ _ shown _. get_or-set_other s.words 0 (1 + k % r.cap) (bit_and n mask) 0 (λ e. omega arith) ∙ shown) (λ _. refl) refl (omega arith) (λ e. inl e),
-        refl,
+        moves fits key s r id v w h flags' r.posting ws' s.homes at (later_same h) counts' (ring_word (items h.changes) h.claimed r.posting r.cap s.words s.homes m r.ring) left.0 (inr (refl, refl))
+            (λ j k z _ _ _ shown _. places (k % r.cap) ∙ shown) (λ _. refl) refl (omega arith) (λ e. inl e),
+        (refl, refl, left.1, ap (is_set Rest) left.2 ∙ clear_flag Rest Rest r.flags),
       )
 
   -- a step that leaves the event word, and a view that says as much
@@ -288,7 +282,7 @@ module _ {T K : Type 0} (fits : K → T → Type 0) (key : K) where
         right = k.got;
         once = λ t. let o = r.once t in let u = total_at (λ z. times t z.got) s.views id v at in let small = cond_small (ltb t r.history.claimed) in omega arith;
         all = λ e. got_all fits key s r id v at e;
-        rests = λ e q. let a = rests_all fits key s r id v at e q in let b = ap settings l.3 in omega arith;
+        rests = λ e q. rests_all fits key s r id v at e q;
       },
     ),
   )

@@ -16,7 +16,7 @@ use Rattle.lw_mbox.specs.declared.view.Change.TheVariants.{Post, Set, Clear}
 use Rattle.lw_mbox.specs.declared.view.Got.{Got}
 use Rattle.lw_mbox.specs.declared.view.Steps.{Steps}
 use Rattle.lw_mbox.specs.Changes.{items, posted, is_on, after_change, shows, Shows}
-use Rattle.lw_mbox.specs.Trail.{Trail, start, saw, met, rests, both, EachLoad, IsFirst, StandsAt, IsNewer}
+use Rattle.lw_mbox.specs.Trail.{Trail, start, saw, met, both, EachLoad, IsFirst, StandsAt, IsNewer}
 use Rattle.lw_mbox.specs.History.{History, Bounded, Sound, IsRight}
 use Rattle.lw_mbox.specs.Rule.{Lights}
 use Rattle.std.proofs.lemmas.List.Sums.{fold_push}
@@ -64,7 +64,6 @@ module _ {T : Type 0} where
   stands_within cs start p h = omega arith
   stands_within cs (saw t w) p h = let f = h.1.1 in f.within
   stands_within cs (met t n) p h = let a = stands_within cs t h.0 h.1.0 in let b = h.1.1 in let c = h.1.2 in omega arith
-  stands_within cs (rests t) p h = stands_within cs t p h
   stands_within cs (both t u) p h = let a = stands_within cs t h.0 h.1.1.0 in let b = stands_within cs u h.1.0 h.1.1.1 in let c = h.1.1.2 in omega arith
 
   first_more : (cs ds : List (Change T)) (q p : ℕ) (w : Word) → IsFirst cs q w p → IsFirst (cs ++ ds) q w p
@@ -80,14 +79,12 @@ module _ {T : Type 0} where
   stands_more cs ds start p h = h
   stands_more cs ds (saw t w) p h = (h.0, (stands_more cs ds t h.0 h.1.0, first_more cs ds h.0 p w h.1.1))
   stands_more cs ds (met t n) p h = let long = length-append cs ds in let b = h.1.1 in (h.0, (stands_more cs ds t h.0 h.1.0, omega arith, h.1.2))
-  stands_more cs ds (rests t) p h = stands_more cs ds t p h
   stands_more cs ds (both t u) p h = (h.0, (h.1.0, (stands_more cs ds t h.0 h.1.1.0, stands_more cs ds u h.1.0 h.1.1.1, h.1.1.2)))
 
 pub each_weaker : (P Q : Word → Type 0) → ((w : Word) → P w → Q w) → (t : Trail) → EachLoad P t → EachLoad Q t
 each_weaker P Q f start h = tt
 each_weaker P Q f (saw t w) h = (each_weaker P Q f t h.0, f w h.1)
 each_weaker P Q f (met t n) h = each_weaker P Q f t h
-each_weaker P Q f (rests t) h = each_weaker P Q f t h
 each_weaker P Q f (both t u) h = (each_weaker P Q f t h.0, each_weaker P Q f u h.1)
 
 -- a history that went on

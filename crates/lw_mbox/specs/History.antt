@@ -9,7 +9,7 @@ use Rattle.lw_mbox.specs.declared.view.Change.{Change}
 use Rattle.lw_mbox.specs.declared.view.Got.{Got}
 use Rattle.lw_mbox.specs.declared.view.Steps.{Steps}
 use Rattle.lw_mbox.specs.Changes.{items, posted, is_on}
-use Rattle.lw_mbox.specs.Trail.{Trail, EachLoad, StandsAt, settings}
+use Rattle.lw_mbox.specs.Trail.{Trail, EachLoad, StandsAt}
 
 -- what was done to a mailbox: the posts and changes of flags, oldest first, and how many tickets were claimed and how many of these fetched
 pub record History (T : Type 0) : Type 0 where
@@ -78,8 +78,8 @@ module _ {T : Type 0} where
   abbrev pub AllBelow : ℕ → List (Got T) → Type 0
   AllBelow n gs = All (λ g. g.ticket < n) gs
 
-  -- What a Poster knows of the Takers that it took back, out of a history with its own changes. With all parts it knows everything that was got
-  pub record Told (changes : List (Change T)) (parts : ℕ) (back : List Steps) (got : List (Got T)) : Type 0 where
+  -- What a Poster knows of the Takers that it took back, out of a history with its own changes. With all parts it knows everything that was got, and REST was set only where a Taker set it
+  pub record Told (changes : List (Change T)) (parts settings : ℕ) (back : List Steps) (got : List (Got T)) : Type 0 where
     pub history : History T
     pub same : history.changes ≡ changes
     pub claims : history.claimed ≤ posted changes
@@ -88,4 +88,4 @@ module _ {T : Type 0} where
     pub right : All (IsRight history) got
     pub once : (t : ℕ) → times t got ≤ 1
     pub all : parts ≡ 256 → GotAll history.claimed got
-    pub rests : parts ≡ 256 → history.rested ≡ true → 1 ≤ sum_by (λ s. settings s.met) back
+    pub rests : parts ≡ 256 → history.rested ≡ true → 1 ≤ settings

@@ -1,13 +1,15 @@
 -- What each step on a mailbox's table tells, and how a seat's knowledge is cut and joined.
-use Rattle.std.specs.Prelude.{◌≡◌, ◌≢◌, ℕ, ◌+◌, ◌-◌, ◌%◌, ◌≤◌, Bool, true, false, [], ◌∷◌, ◌++◌, List, Option, Some, None, Result, Ok, Err}
+use Rattle.std.specs.Prelude.{◌≡◌, ◌≢◌, ℕ, ◌+◌, ◌-◌, ◌%◌, ◌≤◌, Bool, true, false, [], ◌∷◌, ◌++◌, List, Option, Some, None, Result, Ok, Err, bit_and, bit_or}
 use Rattle.atomic_table.specs.Table.{Me, Step}
+use Rattle.lw_base.specs.declared.event_word.Flag.TheVariants.{Rest}
 use Rattle.lw_base.specs.declared.event_word.Word.{Word}
+use Rattle.lw_base.specs.EventWord.{is_set}
 use Rattle.lw_mbox.specs.declared.view.Change.TheVariants.{Post, Set, Clear}
 use Rattle.lw_mbox.specs.declared.view.Got.{Got}
 use Rattle.lw_mbox.specs.declared.view.Steps.{Steps}
 use Rattle.lw_mbox.specs.declared.view.View.{View}
 use Rattle.lw_mbox.specs.Changes.{flag_at, Shows, posted}
-use Rattle.lw_mbox.specs.Trail.{Trail, start, saw, rests, both, IsNewer}
+use Rattle.lw_mbox.specs.Trail.{Trail, start, saw, both, IsNewer}
 use Rattle.lw_mbox.specs.History.{IsWord, claimed_one, times, GotAll, Parted, AllBelow, Told}
 use Rattle.lw_mbox.specs.Rule.{word_of, code_of}
 
@@ -35,11 +37,11 @@ At T = Step (Option T)
 module _ {T K : Type 0} where
   -- a seat that knows only this trail
   abbrev pub fresh : Option K → ℕ → Trail → View T K
-  fresh key parts t = record { key = key; lead = false; changes = []; posting = false; marks = []; back = []; parts = parts; asked = 0; trail = steps t; got = []; holds = None }
+  fresh key parts t = record { key = key; lead = false; changes = []; posting = false; marks = []; back = []; parts = parts; asked = 0; settings = 0; trail = steps t; got = []; holds = None }
 
   -- the first seat, which has all parts
   abbrev pub leading : K → View T K
-  leading key = record { key = Some key; lead = true; changes = []; posting = false; marks = []; back = []; parts = 256; asked = 0; trail = steps start; got = []; holds = None }
+  leading key = record { key = Some key; lead = true; changes = []; posting = false; marks = []; back = []; parts = 256; asked = 0; settings = 0; trail = steps start; got = []; holds = None }
 
   -- the seat after a load of the event word w
   abbrev pub seen : Word → View T K → View T K
@@ -47,10 +49,10 @@ module _ {T K : Type 0} where
 
   -- the seat that took in another: its trail too, or as one that came back
   abbrev pub joined : View T K → View T K → View T K
-  joined v u = record v { trail = steps (both v.trail.met u.trail.met); back = v.back ++ u.back; parts = v.parts + u.parts; got = v.got ++ u.got }
+  joined v u = record v { trail = steps (both v.trail.met u.trail.met); back = v.back ++ u.back; parts = v.parts + u.parts; settings = v.settings + u.settings; got = v.got ++ u.got }
 
   abbrev pub gathered : View T K → View T K → View T K
-  gathered v u = record v { back = v.back ++ (u.trail ∷ u.back); parts = v.parts + u.parts; got = v.got ++ u.got }
+  gathered v u = record v { back = v.back ++ (u.trail ∷ u.back); parts = v.parts + u.parts; settings = v.settings + u.settings; got = v.got ++ u.got }
 
   abbrev pub spent : View T K
   spent = fresh None 0 start
@@ -93,11 +95,14 @@ module _ {T K : Type 0} where
   abbrev pub emptied : At T → Seen T K → ℕ → Seen T K → Type 0
   emptied st m n m' = (m'.0 ≡ record m.0 { holds = None }) × (m'.1 ≡ [])
 
+  -- REST was set, which is a setting of this seat's own, or cleared; the word that was left was seen
   abbrev pub rested_at : At T → Seen T K → ℕ → Seen T K → Type 0
-  rested_at st m n m' = (m'.0 ≡ record m.0 { trail = steps (rests m.0.trail.met) }) × (m'.1 ≡ m.1)
+  rested_at st m n m' = (m'.0 ≡ record (seen (word_of (bit_or n 2)) m.0) { settings = m.0.settings + 1 }) × (m'.1 ≡ m.1) × Loads m.0.trail.met m.0.got (bit_or n 2)
+      × (is_set Rest (word_of (bit_or n 2)).flags ≡ true)
 
   abbrev pub calmed : At T → Seen T K → ℕ → Seen T K → Type 0
-  calmed st m n m' = m' ≡ m
+  calmed st m n m' = (m'.0 ≡ seen (word_of (bit_and n 18446744073709551613)) m.0) × (m'.1 ≡ m.1) × Loads m.0.trail.met m.0.got (bit_and n 18446744073709551613)
+      × (is_set Rest (word_of (bit_and n 18446744073709551613)).flags ≡ false)
 
   -- the seat is about to hand on so many parts
   abbrev pub asks : At T → Seen T K → ℕ → Seen T K → Type 0
@@ -107,4 +112,4 @@ module _ {T K : Type 0} where
   tallied st m n m' = (m' ≡ m) × ((t : ℕ) → times t m.0.got ≤ 1)
 
   abbrev pub tells : At T → Seen T K → ℕ → Seen T K → Type 0
-  tells st m n m' = (m' ≡ m) × Told m.0.changes m.0.parts m.0.back m.0.got
+  tells st m n m' = (m' ≡ m) × Told m.0.changes m.0.parts m.0.settings m.0.back m.0.got

@@ -1,5 +1,5 @@
 -- The rule of a mailbox's table. Word 0 is the event word. Word 1 + j is the next ticket that may be posted at the place j, and slot j has the item posted there that is not taken yet.
-use Rattle.std.specs.Prelude.{◌≡◌, ◌≢◌, ℕ, ◌+◌, ◌*◌, ◌/◌, ◌%◌, ◌^◌, ◌<◌, ◌≤◌, Bool, true, false, cond, ltb, List, [], ◌∷◌, length, get_or, All, Option, Some, None, sum_by}
+use Rattle.std.specs.Prelude.{◌≡◌, ◌≢◌, ℕ, ◌+◌, ◌*◌, ◌/◌, ◌%◌, ◌^◌, ◌<◌, ◌≤◌, Bool, true, false, cond, ltb, List, [], ◌∷◌, length, get_or, All, Option, Some, None}
 use mathlib.Core.Option.{some}
 use mathlib.Core.Option as maybe
 use lib.ListN.{get_elem?}
@@ -11,7 +11,7 @@ use Rattle.lw_base.specs.EventWord.{is_set}
 use Rattle.lw_mbox.specs.declared.view.Change.{Change}
 use Rattle.lw_mbox.specs.declared.view.View.{View}
 use Rattle.lw_mbox.specs.Changes.{items, posted, is_on}
-use Rattle.lw_mbox.specs.Trail.{settings, start}
+use Rattle.lw_mbox.specs.Trail.{start}
 use Rattle.lw_mbox.specs.History.{History, Sound, IsRight, times}
 
 -- an event word as one number: the posts in 28 bits, the claims in 28, the flags in 8
@@ -62,10 +62,6 @@ module _ {T : Type 0} where
     pub fit : All fits (items h.changes)
 
 module _ {T K : Type 0} where
-  -- how often a seat knows REST as set
-  abbrev pub rests_of : View T K → ℕ
-  rests_of v = settings v.trail.met + sum_by (λ s. settings s.met) v.back
-
   -- what the seat i knows is so
   pub record Knows (key : K) (h : History T) (posting : Bool) (cap : ℕ) (words : List ℕ) (i : ℕ) (v : View T K) : Type 0 where
     pub keyed : (k : K) → v.key ≡ Some k → k ≡ key
@@ -73,7 +69,7 @@ module _ {T K : Type 0} where
     pub trail : Sound h v.trail.met
     pub back : All (λ s. Sound h s.met) v.back
     pub got : All (IsRight h) v.got
-    pub partless : v.parts ≡ 0 → (v.got ≡ []) × (rests_of v ≡ 0)
+    pub partless : v.parts ≡ 0 → (v.got ≡ []) × (v.settings ≡ 0)
     pub holding : (k : ℕ) → v.holds ≡ Some k → (k < h.claimed) × (get_or words (1 + k % cap) 0 ≡ k) × (1 ≤ times k v.got)
 
   abbrev pub total : (View T K → ℕ) → List (View T K) → ℕ
@@ -91,4 +87,4 @@ module _ {T K : Type 0} where
     pub each : (i : ℕ) (v : View T K) → get_elem? s.views i ≡ some v → Knows key history posting cap s.words i v
     pub once : (n : ℕ) → total (λ v. times n v.got) s.views ≡ cond (ltb n history.claimed) 1 0
     pub whole : total (λ v. v.parts) s.views ≡ 256
-    pub rests : history.rested ≡ true → 1 ≤ total rests_of s.views
+    pub rests : history.rested ≡ true → 1 ≤ total (λ v. v.settings) s.views

@@ -17,7 +17,7 @@ use Rattle.lw_mbox.specs.declared.answers.Fetch.TheVariants as fetch
 use Rattle.lw_mbox.specs.declared.answers.Drain.{Drain}
 use Rattle.lw_mbox.specs.declared.answers.Drain.TheVariants as drain
 use Rattle.lw_mbox.specs.Changes.{posted}
-use Rattle.lw_mbox.specs.Trail.{Trail, saw, rests, IsNewer}
+use Rattle.lw_mbox.specs.Trail.{Trail, saw, IsNewer}
 use Rattle.lw_mbox.specs.History.{IsWord, claimed_one, IsClosed, IsOpen, AllBelow, Parted, GotAll}
 use Rattle.lw_mbox.specs.Plays.{ticket}
 
@@ -27,7 +27,7 @@ pub record Named (K : Type 0) : Type 0 where
   pub capacity : ℕ
   pub key : K
 
--- a Poster: what it did, the refusals, what its loads of places found, and the Takers that it took back
+-- a Poster: what it did, the refusals, what its loads of places found, and of the Takers that it took back the parts, the settings of REST, the trails and the tickets
 pub record Desk (T K : Type 0) : Type 0 where
   pub board : TableId
   pub key : Option K
@@ -35,14 +35,16 @@ pub record Desk (T K : Type 0) : Type 0 where
   pub refusals : ℕ
   pub marks : List ℕ
   pub parts : ℕ
+  pub settings : ℕ
   pub back : List Steps
   pub got : List (Got T)
 
--- a Taker: its parts of the right to know the whole, what it has seen, and what it got
+-- a Taker: its parts of the right to know the whole, how often it set REST, what it has seen, and what it got
 pub record Hand (T K : Type 0) : Type 0 where
   pub board : TableId
   pub key : Option K
   pub parts : ℕ
+  pub settings : ℕ
   pub trail : Trail
   pub got : List (Got T)
 
@@ -105,5 +107,5 @@ module _ {T K : Type 0} where
 
   -- a Taker after it set REST, or cleared it
   abbrev pub rested : Bool → Hand T K → Hand T K
-  rested true h = record h { trail = rests h.trail }
+  rested true h = record h { settings = h.settings + 1 }
   rested false h = h

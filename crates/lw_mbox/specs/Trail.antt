@@ -1,15 +1,14 @@
 -- What a Taker has seen, and its place: how far into the Poster's changes it has surely seen.
-use Rattle.std.specs.Prelude.{◌≡◌, ℕ, suc, ◌+◌, ◌<◌, ◌≤◌, max, List, length, take}
+use Rattle.std.specs.Prelude.{◌≡◌, ℕ, ◌<◌, ◌≤◌, max, List, length, take}
 use Rattle.lw_base.specs.declared.event_word.Word.{Word}
 use Rattle.lw_mbox.specs.declared.view.Change.{Change}
 use Rattle.lw_mbox.specs.Changes.{Shows}
 
--- oldest first: loads of the event word, notes of so many changes, settings of REST, and whole trails that were joined
+-- oldest first: loads of the event word, notes of so many changes, and whole trails that were joined
 pub data Trail : Type 0 where
   start : Trail
   saw : Trail → Word → Trail
   met : Trail → ℕ → Trail
-  rests : Trail → Trail
   both : Trail → Trail → Trail
 
 -- each load of the trail
@@ -17,23 +16,13 @@ abbrev pub EachLoad : (Word → Type 0) → Trail → Type 0
 EachLoad P start = Unit {0}
 EachLoad P (saw t w) = EachLoad P t × P w
 EachLoad P (met t n) = EachLoad P t
-EachLoad P (rests t) = EachLoad P t
 EachLoad P (both t u) = EachLoad P t × EachLoad P u
-
--- how often the trail sets REST
-abbrev pub settings : Trail → ℕ
-settings start = 0
-settings (saw t w) = settings t
-settings (met t n) = settings t
-settings (rests t) = suc (settings t)
-settings (both t u) = settings t + settings u
 
 -- how many changes a note has
 abbrev pub noted : Trail → ℕ
 noted start = 0
 noted (saw t w) = 0
 noted (met t n) = n
-noted (rests t) = 0
 noted (both t u) = 0
 
 -- p is the least number of changes, from q on, after which the word showed these posts and flags
@@ -48,7 +37,6 @@ abbrev pub StandsAt : {T : Type 0} → List (Change T) → Trail → ℕ → Typ
 StandsAt cs start p = p ≡ 0
 StandsAt cs (saw t w) p = (q : ℕ) × (StandsAt cs t q × IsFirst cs q w p)
 StandsAt cs (met t n) p = (q : ℕ) × (StandsAt cs t q × (n ≤ length cs) × (p ≡ max q n))
-StandsAt cs (rests t) p = StandsAt cs t p
 StandsAt cs (both t u) p = (q : ℕ) × ((r : ℕ) × (StandsAt cs t q × StandsAt cs u r × (p ≡ max q r)))
 
 -- no load of the trail is newer than the word

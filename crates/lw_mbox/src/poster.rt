@@ -40,7 +40,7 @@ impl<T: Mail<K>, K> Model for Poster<T, K> {
 
     ghost coded = { Prim.hlevel (codes, table_id_coded, trail_coded) };
 
-    ghost view = { λ p. let v = p.seat.me.0 in record { board = p.seat.table_id; key = v.key; changes = v.changes; refusals = p.refusals; marks = v.marks; parts = v.parts; back = v.back; got = v.got } };
+    ghost view = { λ p. let v = p.seat.me.0 in record { board = p.seat.table_id; key = v.key; changes = v.changes; refusals = p.refusals; marks = v.marks; parts = v.parts; settings = v.settings; back = v.back; got = v.got } };
 
     ghost invariant = { λ p. (p.seat.me.1 ≡ []) × (p.seat.me.0.lead ≡ true) × (p.seat.me.0.posting ≡ false) × (p.next ≡ posted p.seat.me.0.changes) × (p.next < 2 ^ 28) };
 }
@@ -125,8 +125,8 @@ impl<T: Mail<K>, K> Poster<T, K> {
     pub fn gather(&mut self, mbox: &Mbox<T, K>, taker: Taker<T, K>)
         requires own { IsOf mbox.now self.old.board self.old.key }
         requires theirs { IsOf mbox.now taker.board taker.key }
-        ensures after { self.new ≡ record self.old { parts = self.old.parts + taker.parts; back = self.old.back ++ steps taker.trail ∷ []; got = self.old.got ++ taker.got } }
-        ensures told { Told self.new.changes self.new.parts self.new.back self.new.got }
+        ensures after { self.new ≡ record self.old { parts = self.old.parts + taker.parts; settings = self.old.settings + taker.settings; back = self.old.back ++ steps taker.trail ∷ []; got = self.old.got ++ taker.got } }
+        ensures told { Told self.new.changes self.new.parts self.new.settings self.new.back self.new.got }
     {
         mbox.table
             .shared
