@@ -126,7 +126,7 @@ module _ {T K : Type 0} (fits : K → T → Type 0) (key : K) where
   sees h p cap ws id v w plain t k = let st = k.trail.stands in let f = first_shown h.changes w st.0 (stands_within h.changes v.trail.met st.0 st.1) t.shown in record {
     keyed = k.keyed;
     leads = λ e. absurd (false≢true (sym plain ∙ e));
-    trail = record { stands = (f.0, (st.0, (st.1, f.1))); loads = (k.trail.loads, t.bounded) };
+    trail = record { stands = (f.0, (st.0, (st.1, f.1))); loads = (k.trail.loads, t.bounded); notes = k.trail.notes };
     back = k.back;
     got = k.got;
     partless = k.partless;
@@ -137,7 +137,7 @@ module _ {T K : Type 0} (fits : K → T → Type 0) (key : K) where
   loads_today s r id v at = let t = today (fits key) r.history r.flags s.words r.counts in let k = r.each id v at in let claims = t.claims in record {
     word = t.word;
     exact = exact_today (fits key) r.history r.flags s.words r.counts;
-    newer = newer_now r.history (word_of (get_or s.words 0 0)) t.posts t.claims v.trail.met k.trail.loads;
+    newer = newer_now r.history (word_of (get_or s.words 0 0)) t.posts t.claims t.closed v.trail.met k.trail;
     above = λ i g l. let b = (k.got i g l).below in omega arith;
   }
 
@@ -151,7 +151,7 @@ module _ {T K : Type 0} (fits : K → T → Type 0) (key : K) where
         record {
           word = t.word;
           exact = subst (λ (n : ℕ). n ≡ code_of (word_of n)) is (exact_today (fits key) h' flags' ws' counts);
-          newer = newer_now h' (word_of m) t.posts t.claims v.trail.met k.trail.loads;
+          newer = newer_now h' (word_of m) t.posts t.claims t.closed v.trail.met k.trail;
           above = λ i g l. let b = (k.got i g l).below in omega arith;
         },
         ap (λ (n : ℕ). (word_of n).flags) (sym is) ∙ ap (λ (w : Word). w.flags) here,

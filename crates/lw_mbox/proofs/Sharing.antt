@@ -7,7 +7,9 @@ use Rattle.std.proofs.lemmas.List.Elements.{All-weaker, All-push, All-append, Al
 use Rattle.atomic_table.specs.Table.{State, Me, Splits, Joins, opening}
 use Rattle.atomic_table.proofs.Lists.{at_set, at_snoc}
 use Rattle.lw_base.specs.declared.event_word.Flag.{Flag}
+use Rattle.lw_base.specs.declared.event_word.Flag.TheVariants.{Closed}
 use Rattle.lw_base.specs.EventWord.{is_set, bit_of}
+use Rattle.lw_mbox.specs.Changes.{is_on}
 use Rattle.lw_mbox.specs.declared.view.Got.{Got}
 use Rattle.lw_mbox.specs.declared.view.Steps.{Steps}
 use Rattle.lw_mbox.specs.declared.view.View.{View}
@@ -27,7 +29,7 @@ all_vacant (suc n) zero a h = refl
 all_vacant (suc n) (suc i) a h = all_vacant n i a (omega arith)
 
 sound_start : {T : Type 0} (h : History T) → Sound h start
-sound_start h = record { stands = (0, refl); loads = tt }
+sound_start h = record { stands = (0, refl); loads = tt; notes = tt }
 
 none_some : (a : ℕ) → None ≡ Some a → ⊥
 none_some a e = cc
@@ -103,7 +105,7 @@ module _ {T K : Type 0} (fits : K → T → Type 0) (key : K) where
   fresh_known h p cap ws i k parts t keyed sound = record {
     keyed = keyed;
     leads = λ e. absurd (false≢true e);
-    trail = record { stands = sound.stands; loads = sound.loads };
+    trail = sound;
     back = All-nil (λ (s : Steps). Sound h s.met);
     got = All-nil (IsRight h);
     partless = λ z. (refl, refl);
@@ -120,9 +122,9 @@ module _ {T K : Type 0} (fits : K → T → Type 0) (key : K) where
       record { keyed = k.keyed; leads = k.leads; trail = k.trail; back = k.back; got = k.got; partless = λ z. absurd (omega arith); holding = k.holding }
       (λ i. fresh_known r.history r.posting r.cap s.words i v.key v.asked v.trail.met k.keyed k.trail) (λ n. omega arith) (omega arith) (omega arith)
 
-  pub jots : (id : ℕ) (v : View T K) → v.lead ≡ true → Splits Rule id v v (fresh v.key 0 (met start (length v.changes)))
-  jots id v leads s r at = let k = r.each id v at in let same = ap length (k.leads leads).1 in let n : ℕ = length v.changes in divides s r id v v (fresh v.key 0 (met start n)) at k
-      (λ i. fresh_known r.history r.posting r.cap s.words i v.key 0 (met start n) k.keyed record { stands = (n, (0, (refl, omega arith, omega arith))); loads = tt }) (λ m. omega arith) (omega arith) (omega arith)
+  pub jots : (id : ℕ) (v : View T K) → v.lead ≡ true → Splits Rule id v v (fresh v.key 0 (met start (length v.changes) (is_on Closed v.changes)))
+  jots id v leads s r at = let k = r.each id v at in let l = k.leads leads in let same = ap length l.1 in let n : ℕ = length v.changes in let b : Bool = is_on Closed v.changes in divides s r id v v (fresh v.key 0 (met start n b)) at k
+      (λ i. fresh_known r.history r.posting r.cap s.words i v.key 0 (met start n b) k.keyed record { stands = (n, (0, (refl, omega arith, omega arith))); loads = tt; notes = (tt, λ e. sym (ap (is_on Closed) l.1) ∙ e) }) (λ m. omega arith) (omega arith) (omega arith)
 
   -- a seat takes in another, which keeps nothing
   pub unites : (s : State (Option T) (View T K)) (r : Rule s) (id : ℕ) (v : View T K) (other : ℕ) (w one : View T K) → get_elem? s.views id ≡ some v → ¬ (other ≡ id) → get_elem? (set s.views id one) other ≡ some w
@@ -157,7 +159,7 @@ module _ {T K : Type 0} (fits : K → T → Type 0) (key : K) where
       unites s r id v other w (joined v w) at apart there (λ o. let a = k.trail.stands in let b = o.trail.stands in record {
         keyed = k.keyed;
         leads = λ e. absurd (false≢true (sym plain ∙ e));
-        trail = record { stands = (Rattle.std.proofs.Common.max a.0 b.0, (a.0, (b.0, (a.1, b.1, refl)))); loads = (k.trail.loads, o.trail.loads) };
+        trail = record { stands = (Rattle.std.proofs.Common.max a.0 b.0, (a.0, (b.0, (a.1, b.1, refl)))); loads = (k.trail.loads, o.trail.loads); notes = (k.trail.notes, o.trail.notes) };
         back = All-append (λ (t : Steps). Sound h t.met) v.back w.back k.back o.back;
         got = All-append (IsRight h) v.got w.got k.got o.got;
         partless = λ z. let y = all_zero v.parts w.parts z in let y₀ = (k.partless y.0).1 in let y₁ = (o.partless y.1).1 in (none_twice v.parts w.parts v.got w.got (λ q. (k.partless q).0) (λ q. (o.partless q).0) z, omega arith);

@@ -9,7 +9,7 @@ use Rattle.lw_mbox.specs.declared.view.Change.{Change}
 use Rattle.lw_mbox.specs.declared.view.Got.{Got}
 use Rattle.lw_mbox.specs.declared.view.Steps.{Steps}
 use Rattle.lw_mbox.specs.Changes.{items, posted, is_on}
-use Rattle.lw_mbox.specs.Trail.{Trail, EachLoad, StandsAt}
+use Rattle.lw_mbox.specs.Trail.{Trail, EachLoad, EachNote, StandsAt, IsClosed, IsOpen}
 
 -- what was done to a mailbox: the posts and changes of flags, oldest first, and how many tickets were claimed and how many of these fetched
 pub record History (T : Type 0) : Type 0 where
@@ -29,14 +29,6 @@ pub record IsWord (w : Word) : Type 0 where
 abbrev pub claimed_one : Word → Word
 claimed_one w = record w { claimed = w.claimed + 1 }
 
--- CLOSED stands in the word
-abbrev pub IsClosed : Word → Type 0
-IsClosed w = is_set Closed w.flags ≡ true
-
--- CLOSED doesn't stand in the word
-abbrev pub IsOpen : Word → Type 0
-IsOpen w = is_set Closed w.flags ≡ false
-
 module _ {T : Type 0} where
   -- A word of the past: no number in it exceeds today's. Without CLOSED its claims are fetches; with it nothing was posted since. REST stands only where it was set
   pub record Bounded (h : History T) (w : Word) : Type 0 where
@@ -46,10 +38,11 @@ module _ {T : Type 0} where
     pub shut : IsClosed w → (is_on Closed h.changes ≡ true) × (w.posted ≡ posted h.changes)
     pub rests : is_set Rest w.flags ≡ true → h.rested ≡ true
 
-  -- a trail has a place, and its loads are words of the past
+  -- a trail has a place, its loads are words of the past, and its notes tell CLOSED only where it is set
   pub record Sound (h : History T) (t : Trail) : Type 0 where
     pub stands : (p : ℕ) × StandsAt h.changes t p
     pub loads : EachLoad (Bounded h) t
+    pub notes : EachNote (λ closed. closed ≡ true → is_on Closed h.changes ≡ true) t
 
   -- what was got is the item posted as that ticket. The tickets fetched are below the number of fetches, the drained ones are not
   pub record IsRight (h : History T) (g : Got T) : Type 0 where

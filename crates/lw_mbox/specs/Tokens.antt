@@ -17,8 +17,8 @@ use Rattle.lw_mbox.specs.declared.answers.Fetch.TheVariants as fetch
 use Rattle.lw_mbox.specs.declared.answers.Drain.{Drain}
 use Rattle.lw_mbox.specs.declared.answers.Drain.TheVariants as drain
 use Rattle.lw_mbox.specs.Changes.{posted}
-use Rattle.lw_mbox.specs.Trail.{Trail, saw, IsNewer}
-use Rattle.lw_mbox.specs.History.{IsWord, claimed_one, IsClosed, IsOpen, AllBelow, Parted, GotAll}
+use Rattle.lw_mbox.specs.Trail.{Trail, saw, IsClosed, IsOpen, IsNewer, NeverClosed}
+use Rattle.lw_mbox.specs.History.{IsWord, claimed_one, AllBelow, Parted, GotAll}
 use Rattle.lw_mbox.specs.Plays.{ticket}
 
 -- a mailbox, what its items fit
@@ -48,11 +48,12 @@ pub record Hand (T K : Type 0) : Type 0 where
   pub trail : Trail
   pub got : List (Got T)
 
--- a note of so many changes
+-- a note of so many changes, and of whether CLOSED was set by then
 pub record Noted (K : Type 0) : Type 0 where
   pub board : TableId
   pub key : Option K
   pub changes : ℕ
+  pub closed : Bool
 
 -- the token is of this mailbox
 abbrev pub IsOf : {K : Type 0} → Named K → TableId → Option K → Type 0
@@ -79,7 +80,7 @@ module _ {T K : Type 0} where
   abbrev pub sees : Hand T K → Word → Hand T K
   sees h w = record h { trail = saw h.trail w }
 
-  -- a word that a Taker may be answered: nothing that it saw is newer, and each ticket that it had is below the word's claims
+  -- a word that a Taker may be answered: nothing that it saw or met is newer, and each ticket that it had is below the word's claims
   pub record IsAnswer (h : Hand T K) (w : Word) : Type 0 where
     pub word : IsWord w
     pub newer : IsNewer h.trail w
@@ -102,7 +103,7 @@ module _ {T K : Type 0} where
   abbrev pub Drains : (T → Type 0) → Hand T K → Drain T → Hand T K → Type 0
   Drains fits h (drain.Item t x) e = (w : Word) × (IsAnswer h w × IsClosed w × Gets fits true h w t x e)
   Drains fits h (drain.Done w) e = IsAnswer h w × IsClosed w × (w.posted ≡ w.claimed) × (e ≡ sees h w) × Parted h.got × (h.parts ≡ 256 → GotAll w.posted h.got)
-  Drains fits h (drain.Alive w) e = IsAnswer h w × IsOpen w × (e ≡ sees h w)
+  Drains fits h (drain.Alive w) e = IsAnswer h w × IsOpen w × NeverClosed h.trail × (e ≡ sees h w)
   Drains fits h (drain.Busy v w) e = IsAnswer h v × IsClosed v × (v.claimed < v.posted) × IsAnswer (sees h v) w × (v ≢ w) × (e ≡ sees (sees h v) w)
 
   -- a Taker after it set REST, or cleared it

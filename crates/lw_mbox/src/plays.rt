@@ -108,12 +108,14 @@ pub(crate) struct Jot;
 
 impl<T, K> Split<View<T, K>> for Jot {
     ghost use Rattle.std.specs.Prelude.{length};
+    ghost use Rattle.lw_base.specs.declared.event_word.Flag.TheVariants.{Closed};
+    ghost use Rattle.lw_mbox.specs.Changes.{is_on};
     ghost use Rattle.lw_mbox.specs.Trail.{start, met};
     ghost use Rattle.lw_mbox.specs.Plays.{fresh};
 
     ghost left = { λ v. v };
 
-    ghost right = { λ v. fresh v.key 0 (met start (length v.changes)) };
+    ghost right = { λ v. fresh v.key 0 (met start (length v.changes) (is_on Closed v.changes)) };
 }
 
 pub(crate) struct Joins;

@@ -114,7 +114,7 @@ impl<T: Mail<K>, K> Poster<T, K> {
     pub fn note(&mut self, mbox: &Mbox<T, K>) -> Note<T, K>
         requires own { IsOf mbox.now self.old.board self.old.key }
         ensures same { self.new ≡ self.old }
-        ensures note { result ≡ record { board = self.old.board; key = self.old.key; changes = length self.old.changes } }
+        ensures note { result ≡ record { board = self.old.board; key = self.old.key; changes = length self.old.changes; closed = is_on Closed self.old.changes } }
     {
         Note {
             seat: mbox.table.shared.split_seat::<Jot>(&mut self.seat),

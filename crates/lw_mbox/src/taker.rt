@@ -2,10 +2,10 @@
 ghost use Rattle.std.specs.Prelude.{◌≡◌, ◌≢◌, ℕ, ◌+◌, ◌-◌, ◌%◌, ◌<◌, ◌≤◌, ◌^◌, ◌++◌, ◌↔◌, [], ◌∷◌, Some, None, true, false, IsTrue};
 ghost use Rattle.lw_base.specs.declared.event_word.Flag.TheVariants.{Rest};
 ghost use Rattle.lw_base.specs.EventWord.{is_set};
-ghost use Rattle.lw_mbox.specs.Trail.{start, met, both};
+ghost use Rattle.lw_mbox.specs.Trail.{start, met, both, IsOpen, IsClosed};
 ghost use Rattle.lw_mbox.specs.Rule.{word_of};
 ghost use Rattle.lw_mbox.specs.Plays.{Claims};
-ghost use Rattle.lw_mbox.specs.History.{IsOpen, IsClosed, Parted, GotAll, times};
+ghost use Rattle.lw_mbox.specs.History.{Parted, GotAll, times};
 ghost use Rattle.lw_mbox.specs.Tokens.{IsOf, IsFor, IsAnswer, sees, Fetches, Drains, rested};
 
 use crate::answers::{Drain, Fetch, Side};
@@ -73,7 +73,7 @@ impl<T: Mail<K>, K> Taker<T, K> {
         }
     }
 
-    /// Takes the next ticket's item out of a closed mailbox.
+    /// Takes the next ticket's item out of a closed mailbox. It answers `Alive` only to a Taker that has met no note and loaded no word with CLOSED.
     pub fn drain(&mut self, mbox: &Mbox<T, K>) -> Drain<T>
         requires own { IsOf mbox.now self.old.board self.old.key }
         ensures { Drains (T.fits mbox.now.key) self.old result self.new }
@@ -134,8 +134,8 @@ impl<T: Mail<K>, K> Taker<T, K> {
     pub fn meet(&mut self, mbox: &Mbox<T, K>, note: Note<T, K>) -> Word
         requires own { IsOf mbox.now self.old.board self.old.key }
         requires theirs { IsOf mbox.now note.board note.key }
-        ensures after { self.new ≡ sees (record self.old { trail = both self.old.trail (met start note.changes) }) result }
-        ensures answer { IsAnswer self.old result }
+        ensures after { self.new ≡ sees (record self.old { trail = both self.old.trail (met start note.changes note.closed) }) result }
+        ensures answer { IsAnswer (record self.old { trail = both self.old.trail (met start note.changes note.closed) }) result }
     {
         mbox.table
             .shared
