@@ -15,7 +15,7 @@ use Rattle.lw_mbox.specs.declared.view.Steps.{Steps}
 use Rattle.lw_mbox.specs.declared.view.View.{View}
 use Rattle.lw_mbox.specs.Trail.{Trail, start, met}
 use Rattle.lw_mbox.specs.History.{History, Sound, IsRight, times}
-use Rattle.lw_mbox.specs.Rule.{coded, code_of, word_of, Ring, Homes, Lights, Counts, Knows, total, Ruled}
+use Rattle.lw_mbox.specs.Rule.{coded, code_of, word_of, Found, Ring, Homes, Lights, Counts, Knows, total, Ruled}
 use Rattle.lw_mbox.specs.Plays.{fresh, leading, joined, gathered, spent}
 use Rattle.lw_mbox.proofs.Rows.{total_set, total_push}
 use Rattle.lw_mbox.proofs.Moves.{times-append}
@@ -65,7 +65,8 @@ module _ {T K : Type 0} (fits : K → T → Type 0) (key : K) where
     };
     each = λ i v e. let o = only (leading key) v i e in subst (λ (x : ℕ × View T K). Knows key h false cap ws x.0 x.1) (λ c. (sym o.0 c, o.1 c)) record {
       keyed = λ k e. some_key key k e;
-      leads = λ _. (refl, refl, refl, refl);
+      leads = λ _. (refl, refl, refl);
+      marks = λ _. All-nil (Found 0 cap ws);
       trail = sound_start h;
       back = All-nil (λ (s : Steps). Sound h s.met);
       got = All-nil (IsRight h);
@@ -105,6 +106,7 @@ module _ {T K : Type 0} (fits : K → T → Type 0) (key : K) where
   fresh_known h p cap ws i k parts t keyed sound = record {
     keyed = keyed;
     leads = λ e. absurd (false≢true e);
+    marks = λ e. absurd (false≢true e);
     trail = sound;
     back = All-nil (λ (s : Steps). Sound h s.met);
     got = All-nil (IsRight h);
@@ -114,12 +116,12 @@ module _ {T K : Type 0} (fits : K → T → Type 0) (key : K) where
 
   pub hires : (id : ℕ) (v : View T K) → v.got ≡ [] → v.settings ≡ 0 → Splits Rule id v (record v { parts = 0 }) (fresh v.key v.parts start)
   hires id v none_got none_set s r at = let k = r.each id v at in divides s r id v (record v { parts = 0 }) (fresh v.key v.parts start) at
-      record { keyed = k.keyed; leads = k.leads; trail = k.trail; back = k.back; got = k.got; partless = λ _. (none_got, none_set); holding = k.holding }
+      record { keyed = k.keyed; leads = k.leads; marks = k.marks; trail = k.trail; back = k.back; got = k.got; partless = λ _. (none_got, none_set); holding = k.holding }
       (λ i. fresh_known r.history r.posting r.cap s.words i v.key v.parts start k.keyed (sound_start r.history)) (λ n. omega arith) (omega arith) (omega arith)
 
   pub deals : (id : ℕ) (v : View T K) → 0 < v.asked → v.asked < v.parts → Splits Rule id v (record v { parts = v.parts - v.asked; asked = 0 }) (fresh v.key v.asked v.trail.met)
   deals id v some_asked fewer s r at = let k = r.each id v at in divides s r id v (record v { parts = v.parts - v.asked; asked = 0 }) (fresh v.key v.asked v.trail.met) at
-      record { keyed = k.keyed; leads = k.leads; trail = k.trail; back = k.back; got = k.got; partless = λ z. absurd (omega arith); holding = k.holding }
+      record { keyed = k.keyed; leads = k.leads; marks = k.marks; trail = k.trail; back = k.back; got = k.got; partless = λ z. absurd (omega arith); holding = k.holding }
       (λ i. fresh_known r.history r.posting r.cap s.words i v.key v.asked v.trail.met k.keyed k.trail) (λ n. omega arith) (omega arith) (omega arith)
 
   pub jots : (id : ℕ) (v : View T K) → v.lead ≡ true → Splits Rule id v v (fresh v.key 0 (met start (length v.changes) (is_on Closed v.changes)))
@@ -159,6 +161,7 @@ module _ {T K : Type 0} (fits : K → T → Type 0) (key : K) where
       unites s r id v other w (joined v w) at apart there (λ o. let a = k.trail.stands in let b = o.trail.stands in record {
         keyed = k.keyed;
         leads = λ e. absurd (false≢true (sym plain ∙ e));
+        marks = λ e. absurd (false≢true (sym plain ∙ e));
         trail = record { stands = (Rattle.std.proofs.Common.max a.0 b.0, (a.0, (b.0, (a.1, b.1, refl)))); loads = (k.trail.loads, o.trail.loads); notes = (k.trail.notes, o.trail.notes) };
         back = All-append (λ (t : Steps). Sound h t.met) v.back w.back k.back o.back;
         got = All-append (IsRight h) v.got w.got k.got o.got;
@@ -171,6 +174,7 @@ module _ {T K : Type 0} (fits : K → T → Type 0) (key : K) where
       unites s r id v other w (gathered v w) at apart there (λ o. record {
         keyed = k.keyed;
         leads = k.leads;
+        marks = k.marks;
         trail = k.trail;
         back = All-append (λ (t : Steps). Sound h t.met) v.back (w.trail ∷ w.back) k.back (Rattle.std.proofs.lemmas.List.Elements.All-cons (λ (t : Steps). Sound h t.met) w.trail w.back o.trail o.back);
         got = All-append (IsRight h) v.got w.got k.got o.got;

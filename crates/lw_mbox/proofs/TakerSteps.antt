@@ -22,7 +22,7 @@ use Rattle.lw_mbox.proofs.Rows.{total_at, total_two}
 use Rattle.lw_mbox.proofs.EventWords.{or_coded, and_coded, or_narrow, and_narrow, set_flag, clear_flag, other_flag}
 use Rattle.lw_mbox.proofs.Trails.{Later, same_time}
 use Rattle.lw_mbox.proofs.Rings.{ring_word, ring_claims, ring_empties}
-use Rattle.lw_mbox.proofs.Moves.{times_push, later_same, count_next, Today, word_today, today, knows_later, moves, quiet, leaves, sees, loads_today, parted, got_all, rests_all}
+use Rattle.lw_mbox.proofs.Moves.{found_later, times_push, later_same, count_next, Today, word_today, today, knows_later, moves, quiet, leaves, sees, loads_today, parted, got_all, rests_all}
 
 -- how many fetches there are after a claim, with and without CLOSED
 draws : {T : Type 0} (drained : Bool) (h : History T) → is_on Closed h.changes ≡ drained → (is_on Closed h.changes ≡ false → h.fetched ≡ h.claimed) → h.fetched ≤ h.claimed
@@ -119,12 +119,13 @@ module _ {T K : Type 0} (fits : K → T → Type 0) (key : K) where
       } in
       let is_left : word_of (get_or ws' 0 0) ≡ left_word = word_today (fits key) h' r.flags ws' counts' ∙ sym (ap claimed_one (word_today (fits key) h r.flags s.words counts)) in
       let t' : Today h' left_word = subst (Today h') is_left (today (fits key) h' r.flags ws' counts') in
-      let kl = knows_later fits key h h' later r.posting r.posting cap s.words ws' id v (λ e. absurd (false≢true (sym plain ∙ e))) (λ k _ shown _. get_or-set_other s.words 0 (1 + k % cap) (n + 256) 0 (λ e. omega arith) ∙ shown) kn in
+      let kl = knows_later fits key h h' later r.posting r.posting cap s.words ws' id v (λ e. absurd (false≢true (sym plain ∙ e))) (λ m _ shown. get_or-set_other s.words 0 (1 + m % cap) (n + 256) 0 (λ e. omega arith) ∙ shown) (λ k _ shown _. get_or-set_other s.words 0 (1 + k % cap) (n + 256) 0 (λ e. omega arith) ∙ shown) kn in
       let kw = sees fits key h' r.posting cap ws' id v left_word plain t' kl in
       let right : IsRight h' (ticket c x drained) = record { below = omega arith; item = q.1.1.0; fetches = d.1.4; drains = d.1.5 } in
       let mine : Knows key h' r.posting cap ws' id u = record {
         keyed = kn.keyed;
         leads = kw.leads;
+        marks = kw.marks;
         trail = kw.trail;
         back = kl.back;
         got = All-push (IsRight h') v.got (ticket w.claimed x drained) kl.got (subst (λ (z : ℕ). IsRight h' (ticket z x drained)) (sym ec) right);
@@ -138,7 +139,7 @@ module _ {T K : Type 0} (fits : K → T → Type 0) (key : K) where
           subst (fits key) (at_or (items h.changes) c x x q.1.1.0) (counts.fit c x lt),
           subst (λ (j : ℕ). Rule record { words = ws'; homes = set s.homes j none; views = set s.views id u }) place
               (moves fits key s r id v u h' r.flags r.posting ws' (set s.homes (c % cap) none) at later counts' (ring_word (items h.changes) (c + 1) r.posting cap s.words (set s.homes (c % cap) none) (n + 256) (ring_claims (items h.changes) c r.posting cap s.words s.homes ring lt)) mine
-              (inr (refl, refl)) (λ j k z _ _ _ shown _. get_or-set_other s.words 0 (1 + k % cap) (n + 256) 0 (λ e. omega arith) ∙ shown)
+              (inr (refl, refl)) (λ m _ shown. get_or-set_other s.words 0 (1 + m % cap) (n + 256) 0 (λ e. omega arith) ∙ shown) (λ j k z _ _ _ shown _. get_or-set_other s.words 0 (1 + k % cap) (n + 256) 0 (λ e. omega arith) ∙ shown)
               (λ m. let a = times_push m v.got (ticket w.claimed x drained) in let b = count_next m c in let e : one_if (eqb w.claimed m) ≡ one_if (eqb c m) = ap (λ (z : ℕ). one_if (eqb z m)) ec in omega arith) refl (omega arith) (λ e. inl e)),
         ),
       )
@@ -174,9 +175,12 @@ module _ {T K : Type 0} (fits : K → T → Type 0) (key : K) where
       ⊎_elim (λ (e : m % cap ≡ k % cap). let one : m ≡ k = sym shown ∙ (ap (λ (z : ℕ). get_or s.words (1 + z) 0) e ∙ own.1) in let two = total_two (λ z. times m z.got) s.views j id u v other there at in
       let mine : 1 ≤ times m v.got = subst (λ (z : ℕ). 1 ≤ times z v.got) (sym one) own.2 in let o = r.once m in let small = cond_small (ltb m r.history.claimed) in absurd (omega arith))
       (λ ne. get_or-set_other s.words (1 + k % cap) (1 + m % cap) (k + cap) 0 (λ z. ne (omega arith)) ∙ shown) (cases_eq (m % cap) (k % cap)) in
+      let claims = r.counts.claims in let stays = λ (m : ℕ) (le : posted r.history.changes ≤ m) (shown : get_or s.words (1 + m % cap) 0 ≡ m).
+      ⊎_elim (λ (e : m % cap ≡ k % cap). let one : m ≡ k = sym shown ∙ (ap (λ (z : ℕ). get_or s.words (1 + z) 0) e ∙ own.1) in absurd (omega arith))
+      (λ ne. get_or-set_other s.words (1 + k % cap) (1 + m % cap) (k + cap) 0 (λ z. ne (omega arith)) ∙ shown) (cases_eq (m % cap) (k % cap)) in
       let done = moves fits key s r id v w r.history r.flags r.posting ws' hs' at (later_same r.history) (counts_place (fits key) r.history r.flags s.words (k % cap) (k + cap) r.counts) (ring_empties (items r.history.changes) r.history.claimed r.posting cap s.words s.homes k r.ring own.0 own.1)
-      record { keyed = kn.keyed; leads = kn.leads; trail = kn.trail; back = kn.back; got = kn.got; partless = kn.partless; holding = λ m e. absurd (none_some m e) }
-      (inr (refl, refl)) held (λ n. refl) refl (omega arith) (λ e. inl e) in (
+      record { keyed = kn.keyed; leads = kn.leads; marks = λ e. found_later (posted r.history.changes) (posted r.history.changes) cap s.words ws' v.marks (omega arith) stays (kn.marks e); trail = kn.trail; back = kn.back; got = kn.got; partless = kn.partless; holding = λ m e. absurd (none_some m e) }
+      (inr (refl, refl)) stays held (λ n. refl) refl (omega arith) (λ e. inl e) in (
         w,
         gives,
         tt,
@@ -210,11 +214,11 @@ module _ {T K : Type 0} (fits : K → T → Type 0) (key : K) where
         fit = counts.fit;
       } in
       let left = leaves fits key s r id v h' flags' m ws' plain at later counts' same places in let k = left.0 in
-      let mine : Knows key h' r.posting r.cap ws' id w = record { keyed = k.keyed; leads = k.leads; trail = k.trail; back = k.back; got = k.got; partless = λ z. absurd (omega arith); holding = k.holding } in (
+      let mine : Knows key h' r.posting r.cap ws' id w = record { keyed = k.keyed; leads = k.leads; marks = k.marks; trail = k.trail; back = k.back; got = k.got; partless = λ z. absurd (omega arith); holding = k.holding } in (
         w,
         keeps,
         tt,
-        moves fits key s r id v w h' flags' r.posting ws' s.homes at later counts' (ring_word (items h.changes) h.claimed r.posting r.cap s.words s.homes m r.ring) mine (inr (refl, refl))
+        moves fits key s r id v w h' flags' r.posting ws' s.homes at later counts' (ring_word (items h.changes) h.claimed r.posting r.cap s.words s.homes m r.ring) mine (inr (refl, refl)) (λ j _ shown. places (j % r.cap) ∙ shown)
             (λ j k z _ _ _ shown _. places (k % r.cap) ∙ shown) (λ _. refl) refl (omega arith) (λ _. inr (omega arith)),
         (refl, refl, left.1, ap (is_set Rest) left.2 ∙ set_flag Rest Rest r.flags),
       )
@@ -239,7 +243,7 @@ module _ {T K : Type 0} (fits : K → T → Type 0) (key : K) where
         w,
         keeps,
         tt,
-        moves fits key s r id v w h flags' r.posting ws' s.homes at (later_same h) counts' (ring_word (items h.changes) h.claimed r.posting r.cap s.words s.homes m r.ring) left.0 (inr (refl, refl))
+        moves fits key s r id v w h flags' r.posting ws' s.homes at (later_same h) counts' (ring_word (items h.changes) h.claimed r.posting r.cap s.words s.homes m r.ring) left.0 (inr (refl, refl)) (λ j _ shown. places (j % r.cap) ∙ shown)
             (λ j k z _ _ _ shown _. places (k % r.cap) ∙ shown) (λ _. refl) refl (omega arith) (λ e. inl e),
         (refl, refl, left.1, ap (is_set Rest) left.2 ∙ clear_flag Rest Rest r.flags),
       )
@@ -252,7 +256,7 @@ module _ {T K : Type 0} (fits : K → T → Type 0) (key : K) where
         keeps,
         tt,
         subst (λ (z : ℕ). Rule record { words = set s.words 0 z; homes = s.homes; views = set s.views id w }) (sym same)
-            (quiet fits key s r id 0 v w at record { keyed = k.keyed; leads = k.leads; trail = k.trail; back = k.back; got = k.got; partless = k.partless; holding = k.holding } refl refl (omega arith)),
+            (quiet fits key s r id 0 v w at record { keyed = k.keyed; leads = k.leads; marks = k.marks; trail = k.trail; back = k.back; got = k.got; partless = k.partless; holding = k.holding } refl refl (omega arith)),
         (refl, refl),
       )
 

@@ -1,5 +1,5 @@
 -- What each step on a mailbox's table tells, and how a seat's knowledge is cut and joined.
-use Rattle.std.specs.Prelude.{◌≡◌, ◌≢◌, ℕ, ◌+◌, ◌-◌, ◌%◌, ◌≤◌, Bool, true, false, [], ◌∷◌, ◌++◌, List, Option, Some, None, Result, Ok, Err, bit_and, bit_or}
+use Rattle.std.specs.Prelude.{◌≡◌, ◌≢◌, ℕ, ◌+◌, ◌-◌, ◌%◌, ◌^◌, ◌<◌, ◌≤◌, Bool, true, false, [], ◌∷◌, ◌++◌, List, Option, Some, None, Result, Ok, Err, bit_and, bit_or}
 use Rattle.atomic_table.specs.Table.{Me, Step}
 use Rattle.lw_base.specs.declared.event_word.Flag.TheVariants.{Rest}
 use Rattle.lw_base.specs.declared.event_word.Word.{Word}
@@ -57,11 +57,14 @@ module _ {T K : Type 0} where
   abbrev pub spent : View T K
   spent = fresh None 0 start
 
-  -- the place of the next ticket may be posted at, and then its empty slot was taken, or its last item was not yet marked emptied
-  abbrev pub marked : At T → Seen T K → ℕ → Seen T K → Type 0
-  marked st m n m' =
-      (n ≡ posted m.0.changes → (m'.0 ≡ record m.0 { posting = true; marks = m.0.marks ++ n ∷ [] }) × (m'.1 ≡ (st.word - 1, None) ∷ m.1))
-      × (n ≢ posted m.0.changes → (m'.0 ≡ record m.0 { marks = m.0.marks ++ n ∷ [] }) × (m'.1 ≡ m.1) × (n + st.slots ≡ posted m.0.changes))
+  -- the place of a ticket t was looked at: it may be posted there, or the item posted at this place before isn't yet marked emptied
+  abbrev pub looked : At T → Seen T K → ℕ → Seen T K → Type 0
+  looked st m n m' = (m'.0 ≡ record m.0 { marks = m.0.marks ++ n ∷ [] }) × (m'.1 ≡ m.1)
+      × ((t : ℕ) → posted m.0.changes ≤ t → t < posted m.0.changes + st.slots → 1 + t % st.slots ≡ st.word → n ≢ t → n + st.slots ≡ t)
+
+  -- the empty slot of the next ticket, whose place was found, was taken
+  abbrev pub taken : At T → Seen T K → ℕ → Seen T K → Type 0
+  taken st m n m' = (m'.0 ≡ record m.0 { posting = true; marks = m.0.marks ++ posted m.0.changes ∷ [] }) × (m'.1 ≡ (st.word - 1, None) ∷ m.1) × (posted m.0.changes + 1 < 2 ^ 28)
 
   abbrev pub announced : At T → Seen T K → ℕ → Seen T K → Type 0
   announced st m n m' = (j : ℕ) (x : T) → m.1 ≡ (j, Some x) ∷ []

@@ -11,7 +11,6 @@ use Rattle.lw_base.specs.EventWord.{is_set}
 use Rattle.lw_mbox.specs.declared.view.Change.{Change}
 use Rattle.lw_mbox.specs.declared.view.View.{View}
 use Rattle.lw_mbox.specs.Changes.{items, posted, is_on}
-use Rattle.lw_mbox.specs.Trail.{start}
 use Rattle.lw_mbox.specs.History.{History, Sound, IsRight, times}
 
 -- an event word as one number: the posts in 28 bits, the claims in 28, the flags in 8
@@ -29,6 +28,11 @@ pub record Marked (n cap j m : ℕ) : Type 0 where
   pub at_place : m % cap ≡ j
   pub least : n ≤ m + cap
   pub most : m < n + cap
+
+-- the Poster found m as the next ticket of its place, which stays so while m isn't posted; n items were posted
+pub record Found (n cap : ℕ) (words : List ℕ) (m : ℕ) : Type 0 where
+  pub few : m + 1 < 2 ^ 28
+  pub stays : n ≤ m → get_or words (1 + m % cap) 0 ≡ m
 
 abbrev pub Homes : Type 0 → Type 0
 Homes T = List (maybe.Option (Option T))
@@ -62,10 +66,11 @@ module _ {T : Type 0} where
     pub fit : All fits (items h.changes)
 
 module _ {T K : Type 0} where
-  -- what the seat i knows is so
+  -- what the seat i knows is so. A place that the Poster found stays until it posts there
   pub record Knows (key : K) (h : History T) (posting : Bool) (cap : ℕ) (words : List ℕ) (i : ℕ) (v : View T K) : Type 0 where
     pub keyed : (k : K) → v.key ≡ Some k → k ≡ key
-    pub leads : v.lead ≡ true → (i ≡ 0) × (v.changes ≡ h.changes) × (v.posting ≡ posting) × (v.trail.met ≡ start)
+    pub leads : v.lead ≡ true → (i ≡ 0) × (v.changes ≡ h.changes) × (v.posting ≡ posting)
+    pub marks : v.lead ≡ true → All (Found (posted h.changes) cap words) v.marks
     pub trail : Sound h v.trail.met
     pub back : All (λ s. Sound h s.met) v.back
     pub got : All (IsRight h) v.got

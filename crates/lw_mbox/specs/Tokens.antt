@@ -1,11 +1,10 @@
 -- What callers see of a mailbox, its Poster, its Takers and notes, and what their calls answer.
-use Rattle.std.specs.Prelude.{◌≡◌, ◌≢◌, ℕ, ◌+◌, ◌^◌, ◌<◌, min, Bool, true, false, List, [], ◌∷◌, ◌++◌, Option, Some, Result, Ok, Err}
+use Rattle.std.specs.Prelude.{◌≡◌, ◌≢◌, ℕ, ◌+◌, ◌^◌, ◌<◌, ◌≤◌, min, Bool, true, false, List, [], ◌∷◌, ◌++◌, Option, Some, Result, Ok, Err}
 use Rattle.atomic_table.specs.Seated.{TableId}
 use Rattle.lw_base.specs.declared.event_word.Flag.TheVariants.{Listen}
 use Rattle.lw_base.specs.declared.event_word.Word.{Word}
 use Rattle.lw_base.specs.EventWord.{is_set}
 use Rattle.lw_mbox.specs.declared.view.Change.{Change}
-use Rattle.lw_mbox.specs.declared.view.Change.TheVariants.{Post}
 use Rattle.lw_mbox.specs.declared.view.Got.{Got}
 use Rattle.lw_mbox.specs.declared.view.Steps.{Steps}
 use Rattle.lw_mbox.specs.declared.answers.PostFault.{PostFault}
@@ -69,12 +68,11 @@ IsFor Accepts w = is_set Listen w.flags ≡ true
 IsFor Reads w = is_set Listen w.flags ≡ false
 
 module _ {T K : Type 0} where
-  -- how a post with the capacity leaves the Poster, and what it answers
-  abbrev pub Posts : ℕ → Desk T K → T → Result ℕ (PostFault × T) → Desk T K → Type 0
-  Posts cap d x (Ok t) e = (t ≡ posted d.changes) × (t + 1 < 2 ^ 28) × (e ≡ record d { changes = d.changes ++ Post x ∷ []; marks = d.marks ++ t ∷ [] })
-  Posts cap d x (Err (Full, y)) e = (y ≡ x) × (posted d.changes + 1 < 2 ^ 28)
-      × ((m : ℕ) × ((m + cap ≡ posted d.changes) × (e ≡ record d { refusals = raised d.refusals; marks = d.marks ++ m ∷ [] })))
-  Posts cap d x (Err (Worn, y)) e = (y ≡ x) × (posted d.changes + 1 ≡ 2 ^ 28) × (e ≡ record d { refusals = raised d.refusals })
+  -- whether, after n more posts, one more has a place, and how the look at it leaves the Poster
+  abbrev pub Offers : ℕ → Desk T K → ℕ → Result (Unit {0}) PostFault → Desk T K → Type 0
+  Offers cap d n (Ok u) e = (posted d.changes + n + 1 < 2 ^ 28) × (e ≡ record d { marks = d.marks ++ (posted d.changes + n) ∷ [] })
+  Offers cap d n (Err Full) e = (posted d.changes + n + 1 < 2 ^ 28) × ((m : ℕ) × ((m + cap ≡ posted d.changes + n) × (e ≡ record d { refusals = raised d.refusals; marks = d.marks ++ m ∷ [] })))
+  Offers cap d n (Err Worn) e = (2 ^ 28 ≤ posted d.changes + n + 1) × (e ≡ record d { refusals = raised d.refusals })
 
   -- the Taker after a load of the event word
   abbrev pub sees : Hand T K → Word → Hand T K

@@ -1,16 +1,22 @@
 //! What each step on a mailbox's table tells, and how seats are cut and joined.
 ghost use Rattle.std.specs.Prelude.{◌-◌, true, false, length};
 ghost use Rattle.lw_mbox.specs.Trail.{start, met};
-ghost use Rattle.lw_mbox.specs.Plays.{fresh, marked, announced, sets_flag, clears_flag, loaded, claimed_at, emptied, rested_at, calmed, asks, tallied, tells, joined, gathered, spent};
+ghost use Rattle.lw_mbox.specs.Plays.{fresh, looked, taken, announced, sets_flag, clears_flag, loaded, claimed_at, emptied, rested_at, calmed, asks, tallied, tells, joined, gathered, spent};
 
 use crate::rule::Mail;
 use crate::view::View;
 use atomic_table::{Join, Play, Split};
 
-pub(crate) struct Marked;
+pub(crate) struct Looked;
 
-impl<T, K> Play<Option<T>, View<T, K>> for Marked {
-    ghost then = { marked };
+impl<T, K> Play<Option<T>, View<T, K>> for Looked {
+    ghost then = { looked };
+}
+
+pub(crate) struct Taken;
+
+impl<T, K> Play<Option<T>, View<T, K>> for Taken {
+    ghost then = { taken };
 }
 
 pub(crate) struct Announced;
