@@ -29,17 +29,20 @@ impl Mail<Any> for Item {
     ghost fits = { λ _ _. Unit {0} };
 }
 
+// Posts the item where there is a place for it.
 fn post(
     poster: &mut Poster<Item, Any>,
     mbox: &Mbox<Item, Any>,
     item: Item,
-) -> Result<u32, (PostFault, Item)>
+) -> Result<u32, PostFault>
     requires own { IsOf mbox.now poster.old.board poster.old.key }
+    requires places { 0 < mbox.now.capacity }
     requires unclosed { is_on Closed poster.old.changes ≡ false }
     ensures own { IsOf mbox.now poster.new.board poster.new.key }
     ensures unclosed { is_on Closed poster.new.changes ≡ false }
 {
-    poster.try_post(mbox, item)
+    poster.has_place(mbox, 0)?;
+    Ok(poster.post(mbox, item))
 }
 
 fn fetch(taker: &mut Taker<Item, Any>, mbox: &Mbox<Item, Any>) -> Fetch<Item>
@@ -58,6 +61,7 @@ fn drain(taker: &mut Taker<Item, Any>, mbox: &Mbox<Item, Any>) -> Drain<Item>
 
 // Posts the item as soon as there is room.
 fn post_soon(poster: &mut Poster<Item, Any>, mbox: &Mbox<Item, Any>, item: u32)
+    requires places { 0 < mbox.now.capacity }
     requires own { IsOf mbox.now poster.old.board poster.old.key }
     requires unclosed { is_on Closed poster.old.changes ≡ false }
     ensures own { IsOf mbox.now poster.new.board poster.new.key }
@@ -73,6 +77,7 @@ fn post_soon(poster: &mut Poster<Item, Any>, mbox: &Mbox<Item, Any>, item: u32)
 
 // Posts so many items, and closes the mailbox.
 fn post_all(mut poster: Poster<Item, Any>, mbox: &Mbox<Item, Any>, items: u32)
+    requires places { 0 < mbox.now.capacity }
     requires own { IsOf mbox.now poster.board poster.key }
     requires unclosed { is_on Closed poster.changes ≡ false }
 {
@@ -155,7 +160,7 @@ pub fn time_items<R: Threads + Clock + Sync>(
     join(
         rt,
         ||
-            requires { IsOf mbox poster.board poster.key × (is_on Closed poster.changes ≡ false) }
+            requires { IsOf mbox poster.board poster.key × (0 < mbox.capacity) × (is_on Closed poster.changes ≡ false) }
         { post_all(poster, &mbox, items) },
         ||
             requires { IsSync R.row × All (λ t. IsOf mbox t.board t.key) others.items }

@@ -6,3 +6,4 @@ pub mod Moves
 pub mod TakerSteps
 pub mod PosterSteps
 pub mod Sharing
+pub mod Places

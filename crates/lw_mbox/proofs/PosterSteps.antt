@@ -1,12 +1,12 @@
 -- What each step of a Poster does.
-use Rattle.std.proofs.Common.{◌≡◌, ◌≢◌, ◌⊎◌, ℕ, zero, suc, ◌+◌, ◌-◌, ◌*◌, ◌/◌, ◌%◌, ◌^◌, ◌<◌, ◌≤◌, Bool, true, false, cond, eqb, ltb, List, [], ◌∷◌, ◌++◌, length, get_or, set, sym, refl, ap, ◌∙◌, subst, arith, ⊎_elim, inl, inr, Option, Some, None, length-set, get_or-set_other, get_or-set_same, All, append-nil, length-append, bit_and, bit_or, eq-eqb, ne_eqb}
+use Rattle.std.proofs.Common.{◌≡◌, ◌≢◌, ◌⊎◌, ℕ, zero, suc, ◌+◌, ◌-◌, ◌*◌, ◌/◌, ◌%◌, ◌^◌, ◌<◌, ◌≤◌, Bool, true, false, cond, eqb, ltb, List, [], ◌∷◌, ◌++◌, length, get_or, set, sym, refl, ap, ◌∙◌, subst, arith, ⊎_elim, inl, inr, Option, Some, None, length-set, get_or-set_other, get_or-set_same, mod-lt, All, Contains, append-nil, length-append, bit_and, bit_or, eq-eqb, ne_eqb}
 use mathlib.Core.Option.{none, some}
 use mathlib.Core.Logic.{dite}
 use native.Mathlib.Decide.{ℕ_discrete}
 use lib.ListN.{get_elem?}
 use lib.Seq.{set-get_or}
 use Rattle.std.proofs.lemmas.Bool.{cases_Bool, false≢true}
-use Rattle.std.proofs.lemmas.List.Elements.{All-push}
+use Rattle.std.proofs.lemmas.List.Elements.{All-push, All-contains}
 use Rattle.atomic_table.specs.Table.{State, Me, Step, step, rest, Act, keeps, takes, gives, stepped, homes_after, put_back, Allows, Splits, Joins, opening}
 use Rattle.lw_base.specs.declared.event_word.Flag.{Flag}
 use Rattle.lw_base.specs.declared.event_word.Flag.TheVariants.{Rest, Closed}
@@ -16,12 +16,12 @@ use Rattle.lw_mbox.specs.declared.view.Change.TheVariants.{Post, Set, Clear}
 use Rattle.lw_mbox.specs.declared.view.View.{View}
 use Rattle.lw_mbox.specs.Changes.{items, posted, is_on, is_same, flag_at, Shows}
 use Rattle.lw_mbox.specs.History.{History, IsWord}
-use Rattle.lw_mbox.specs.Rule.{coded, word_of, Ring, Homes, Lights, Counts, Knows, Ruled}
-use Rattle.lw_mbox.specs.Plays.{marked, announced, sets_flag, clears_flag}
+use Rattle.lw_mbox.specs.Rule.{coded, word_of, Found, Ring, Homes, Lights, Counts, Knows, Ruled}
+use Rattle.lw_mbox.specs.Plays.{looked, taken, announced, sets_flag, clears_flag}
 use Rattle.lw_mbox.proofs.EventWords.{or_coded, and_coded, or_narrow, and_narrow, set_flag, clear_flag, other_flag, bit_small, flag_at-bit}
 use Rattle.lw_mbox.proofs.Trails.{items-append, is_on-push, Later, sound_later, all_sound_later, all_right_later}
 use Rattle.lw_mbox.proofs.Rings.{ring_word, ring_takes, ring_posts, still_full}
-use Rattle.lw_mbox.proofs.Moves.{later_same, today, moves, quiet}
+use Rattle.lw_mbox.proofs.Moves.{found_later, later_same, today, moves, quiet}
 
 module _ {T : Type 0} where
   -- the item in the slot that was taken last
@@ -39,31 +39,63 @@ module _ {T K : Type 0} (fits : K → T → Type 0) (key : K) where
   abbrev M : Type 0
   M = Me (Option T) (View T K)
 
-  -- the place of the next ticket is looked at
-  pub marks : (slots id : ℕ) (me : M) (i : ℕ) → me.0.lead ≡ true → me.0.posting ≡ false → i ≡ 1 + posted me.0.changes % slots → Allows Rule slots id me i (λ n. n) (marked (step slots i 0 0 none) me)
-  marks slots id me i leads idle at_word s r deep at _ = let v : View T K = me.0 in let h : History T = r.history in let k = r.each id v at in let l = k.leads leads in let cap : ℕ = r.cap in let same : cap ≡ slots = sym r.ring.deep ∙ deep in
-      let n : ℕ = get_or s.words i 0 in let xs : List T = items h.changes in let p : posted v.changes ≡ length xs = ap posted l.1 in let j : ℕ = length xs % cap in
-      let place : j ≡ i - 1 = (λ c. (sym p c) % (same c)) ∙ (let g : posted v.changes % slots ≡ i - 1 = omega arith in g) in let found : get_or s.words (1 + j) 0 ≡ n = ap (λ (z : ℕ). get_or s.words z 0) (let g : 1 + j ≡ i = omega arith in g) in
-      dite (ℕ_discrete n (posted v.changes))
-      (λ hit. let w : View T K = record v { posting = true; marks = v.marks ++ n ∷ [] } in let ring = subst (λ (b : Bool). Ring xs h.claimed b cap s.words s.homes) (sym l.2 ∙ idle) r.ring in
-      let t = ring_takes xs h.claimed cap s.words s.homes ring (found ∙ (hit ∙ p)) in (
+  -- the place of the ticket t is looked at
+  pub looks : (slots id : ℕ) (me : M) (i t : ℕ) → me.0.lead ≡ true → posted me.0.changes ≤ t → t < posted me.0.changes + slots → t + 1 < 2 ^ 28 → i ≡ 1 + t % slots → Allows Rule slots id me i (λ n. n) (looked (step slots i 0 0 none) me)
+  looks slots id me i t leads lo hi few at_word s r deep at _ = let v : View T K = me.0 in let h : History T = r.history in let k = r.each id v at in let l = k.leads leads in let cap : ℕ = r.cap in let same : cap ≡ slots = sym r.ring.deep ∙ deep in
+      let n : ℕ = get_or s.words i 0 in let xs : List T = items h.changes in let p : posted v.changes ≡ length xs = ap posted l.1 in let w : View T K = record v { marks = v.marks ++ n ∷ [] } in
+      let here = λ (u : ℕ) (e : 1 + u % slots ≡ i). ap (λ (z : ℕ). get_or s.words (1 + u % z) 0) same ∙ ap (λ (z : ℕ). get_or s.words z 0) e in
+      let full = λ (u : ℕ) (a : posted v.changes ≤ u) (b : u < posted v.changes + slots) (e : 1 + u % slots ≡ i) (ne : n ≢ u).
+      (let f : get_or s.words (1 + u % cap) 0 + cap ≡ u = still_full xs h.claimed r.posting cap s.words s.homes u r.ring (omega arith) (omega arith) (λ z. ne (sym (here u e) ∙ z)) in let g = here u e in
+      let q : n + slots ≡ u = omega arith in q) in
+      let at_here = here t (sym at_word) in let low : t % cap < cap = mod-lt t r.ring.places in let turn : n % cap ≡ t % cap = ap (λ (z : ℕ). z % cap) (sym at_here) ∙ (r.ring.marks (t % cap) low).at_place in
+      let mark : Found (posted h.changes) cap s.words n = record {
+        few = dite (ℕ_discrete n t) (λ e. omega arith) (λ ne. let f = full t lo hi (sym at_word) ne in omega arith);
+        stays = λ _. ap (λ (z : ℕ). get_or s.words (1 + z) 0) turn ∙ at_here;
+      } in (
+        w,
+        keeps,
+        tt,
+        quiet fits key s r id i v w at record {
+          keyed = k.keyed;
+          leads = k.leads;
+          marks = λ e. All-push (Found (posted h.changes) cap s.words) v.marks n (k.marks e) mark;
+          trail = k.trail;
+          back = k.back;
+          got = k.got;
+          partless = k.partless;
+          holding = k.holding;
+        } refl refl (omega arith),
+        (refl, refl, full),
+      )
+
+  -- the slot of the next ticket, whose place was found, is taken
+  pub takes_place : (slots id : ℕ) (me : M) (i : ℕ) → me.0.lead ≡ true → me.0.posting ≡ false → Contains me.0.marks (posted me.0.changes) → i ≡ 1 + posted me.0.changes % slots → Allows Rule slots id me i (λ n. n) (taken (step slots i 0 0 none) me)
+  takes_place slots id me i leads idle found at_word s r deep at _ = let v : View T K = me.0 in let h : History T = r.history in let k = r.each id v at in let l = k.leads leads in let cap : ℕ = r.cap in let same : cap ≡ slots = sym r.ring.deep ∙ deep in
+      let xs : List T = items h.changes in let p : posted v.changes ≡ length xs = ap posted l.1 in let j : ℕ = length xs % cap in
+      let place : j ≡ i - 1 = (λ c. (sym p c) % (same c)) ∙ (let g : posted v.changes % slots ≡ i - 1 = omega arith in g) in
+      let f = All-contains (Found (length xs) cap s.words) v.marks (posted v.changes) (k.marks leads) found in let few : posted v.changes + 1 < 2 ^ 28 = f.few in
+      let here : get_or s.words (1 + j) 0 ≡ length xs = ap (λ (z : ℕ). get_or s.words (1 + z % cap) 0) (sym p) ∙ (f.stays (omega arith) ∙ p) in
+      let w : View T K = record v { posting = true; marks = v.marks ++ posted v.changes ∷ [] } in let ring = subst (λ (b : Bool). Ring xs h.claimed b cap s.words s.homes) (sym l.2 ∙ idle) r.ring in
+      let t = ring_takes xs h.claimed cap s.words s.homes ring here in (
         w,
         takes (i - 1) None,
         subst (λ (z : ℕ). get_elem? s.homes z ≡ some (some None)) place t.0,
         subst (λ (z : ℕ). Rule record { words = set s.words i (get_or s.words i 0); homes = set s.homes z none; views = set s.views id w }) place
             (subst (λ (ws : List ℕ). Rule record { words = ws; homes = set s.homes j none; views = set s.views id w }) (sym (set-get_or s.words i 0))
             (moves fits key s r id v w h r.flags true s.words (set s.homes j none) at (later_same h) r.counts t.1
-            record { keyed = k.keyed; leads = λ _. (l.0, l.1, refl, l.3); trail = k.trail; back = k.back; got = k.got; partless = k.partless; holding = k.holding }
-            (inl leads) (λ a b u c d e shown f. shown) (λ m. refl) refl (omega arith) (λ e. inl e))),
-        ((λ _. (refl, refl)), λ miss. absurd (miss hit)),
-      ))
-      (λ miss. let w : View T K = record v { marks = v.marks ++ n ∷ [] } in let full = still_full xs h.claimed r.posting cap s.words s.homes r.ring (λ e. miss (sym found ∙ (e ∙ sym p))) in (
-        w,
-        keeps,
-        tt,
-        quiet fits key s r id i v w at record { keyed = k.keyed; leads = k.leads; trail = k.trail; back = k.back; got = k.got; partless = k.partless; holding = k.holding } refl refl (omega arith),
-        ((λ hit. absurd (miss hit)), λ _. (refl, refl, (let g : n + slots ≡ posted v.changes = omega arith in g))),
-      ))
+            record {
+              keyed = k.keyed;
+              leads = λ _. (l.0, l.1, refl);
+              marks = λ e. All-push (Found (posted h.changes) cap s.words) v.marks (posted v.changes) (k.marks e) f;
+              trail = k.trail;
+              back = k.back;
+              got = k.got;
+              partless = k.partless;
+              holding = k.holding;
+            }
+            (inl leads) (λ m _ shown. shown) (λ a b u c d e shown f. shown) (λ m. refl) refl (omega arith) (λ e. inl e))),
+        (refl, refl, few),
+      )
 
   -- the item in hand is announced as the next ticket
   pub announces : (slots id : ℕ) (me : M) (x : T) → me.0.lead ≡ true → me.0.posting ≡ true → me.1 ≡ (posted me.0.changes % slots, Some x) ∷ [] → posted me.0.changes + 1 < 2 ^ 28 → is_on Closed me.0.changes ≡ false → fits key x
@@ -87,17 +119,18 @@ module _ {T K : Type 0} (fits : K → T → Type 0) (key : K) where
       } in
       let ring₀ = subst (λ (b : Bool). Ring xs h.claimed b cap s.words s.homes) (sym l.2 ∙ posting) r.ring in
       let ring' = ring_word (items cs') h.claimed false cap s.words hs' m (subst (λ (l : List T). Ring l h.claimed false cap s.words hs') (sym its) (ring_posts xs x h.claimed cap s.words s.homes ring₀)) in
-      let sound = all_sound_later h h' later v.back k.back in
+      let sound = all_sound_later h h' later v.back k.back in let kept = λ (a : ℕ) (le : posted h.changes ≤ a) (shown : get_or s.words (1 + a % cap) 0 ≡ a). get_or-set_other s.words 0 (1 + a % cap) m 0 (λ e. omega arith) ∙ shown in
       let mine : Knows key h' false cap ws' id w = record {
         keyed = k.keyed;
-        leads = λ _. (l.0, ap (λ (cs : List (Change T)). cs ++ Post x ∷ []) l.1, refl, l.3);
+        leads = λ _. (l.0, ap (λ (cs : List (Change T)). cs ++ Post x ∷ []) l.1, refl);
+        marks = λ e. found_later (posted h.changes) (posted cs') cap s.words ws' v.marks (omega arith) kept (k.marks e);
         trail = sound_later h h' later v.trail.met k.trail;
         back = sound;
         got = all_right_later h h' later v.got k.got;
         partless = k.partless;
         holding = λ a e. let o = k.holding a e in (o.0, get_or-set_other s.words 0 (1 + a % cap) m 0 (λ e. omega arith) ∙ o.1, o.2);
       } in
-      let done = moves fits key s r id v w h' r.flags false ws' hs' at later counts' ring' mine (inl leads) (λ a b u _ _ _ shown _. get_or-set_other s.words 0 (1 + b % cap) m 0 (λ e. omega arith) ∙ shown) (λ _. refl) refl (omega arith) (λ e. inl e) in (
+      let done = moves fits key s r id v w h' r.flags false ws' hs' at later counts' ring' mine (inl leads) kept (λ a b u _ _ _ shown _. get_or-set_other s.words 0 (1 + b % cap) m 0 (λ e. omega arith) ∙ shown) (λ _. refl) refl (omega arith) (λ e. inl e) in (
         w,
         gives,
         tt,
@@ -126,16 +159,18 @@ module _ {T K : Type 0} (fits : K → T → Type 0) (key : K) where
         fit = subst (λ (l : List T). All (fits key) l) (sym its) counts.fit;
       } in
       let ring' = ring_word (items cs') h.claimed r.posting cap s.words s.homes m (subst (λ (l : List T). Ring l h.claimed r.posting cap s.words s.homes) (sym its) r.ring) in
+      let kept = λ (a : ℕ) (le : posted h.changes ≤ a) (shown : get_or s.words (1 + a % cap) 0 ≡ a). get_or-set_other s.words 0 (1 + a % cap) m 0 (λ e. omega arith) ∙ shown in
       let mine : Knows key h' r.posting cap ws' id w = record {
         keyed = k.keyed;
-        leads = λ _. (l.0, ap (λ (cs : List (Change T)). cs ++ c ∷ []) l.1, l.2, l.3);
+        leads = λ _. (l.0, ap (λ (cs : List (Change T)). cs ++ c ∷ []) l.1, l.2);
+        marks = λ e. found_later (posted h.changes) (posted cs') cap s.words ws' v.marks (omega arith) kept (k.marks e);
         trail = sound_later h h' later v.trail.met k.trail;
         back = all_sound_later h h' later v.back k.back;
         got = all_right_later h h' later v.got k.got;
         partless = k.partless;
         holding = λ a e. let o = k.holding a e in (o.0, get_or-set_other s.words 0 (1 + a % cap) m 0 (λ e. omega arith) ∙ o.1, o.2);
       } in
-      moves fits key s r id v w h' flags' r.posting ws' s.homes at later counts' ring' mine (inl leads) (λ a b u _ _ _ shown _. get_or-set_other s.words 0 (1 + b % cap) m 0 (λ e. omega arith) ∙ shown) (λ _. refl) refl (omega arith) (λ e. inl e)
+      moves fits key s r id v w h' flags' r.posting ws' s.homes at later counts' ring' mine (inl leads) kept (λ a b u _ _ _ shown _. get_or-set_other s.words 0 (1 + b % cap) m 0 (λ e. omega arith) ∙ shown) (λ _. refl) refl (omega arith) (λ e. inl e)
 
   shows_mine : (s : State (Option T) (View T K)) (r : Rule s) (id : ℕ) (v : View T K) → v.lead ≡ true → get_elem? s.views id ≡ some v → IsWord (word_of (get_or s.words 0 0)) × Shows v.changes (word_of (get_or s.words 0 0))
   shows_mine s r id v leads at = let t = today (fits key) r.history r.flags s.words r.counts in (t.word, subst (λ (cs : List (Change T)). Shows cs (word_of (get_or s.words 0 0))) (sym ((r.each id v at).leads leads).1) t.shown)
@@ -200,13 +235,13 @@ module _ {T K : Type 0} where
   still_idle m m' c next none_new is same i = (same ∙ i.0, ap (λ (v : View T K). v.lead) is ∙ i.1, ap (λ (v : View T K). v.posting) is ∙ i.2, i.3 ∙ sym (ap (λ (v : View T K). posted v.changes) is ∙ ap length (no_more m.0.changes c none_new)), i.4)
 
   -- a Poster after it posted is between two calls again
-  pub idle_again : (m m' m'' : Me (Option T) (View T K)) (n next : ℕ) (x : T) {A : Type 0} → (n ≡ posted m.0.changes → (m'.0 ≡ record m.0 { posting = true; marks = m.0.marks ++ n ∷ [] }) × A) → n ≡ next
-      → (m.1 ≡ []) × (m.0.lead ≡ true) × (m.0.posting ≡ false) × (next ≡ posted m.0.changes) × (next < 2 ^ 28) → m''.0 ≡ record m'.0 { posting = false; changes = m'.0.changes ++ Post x ∷ [] } → m''.1 ≡ [] → next + 1 < 2 ^ 28
+  pub idle_again : (m m' m'' : Me (Option T) (View T K)) (next : ℕ) (x : T) → m'.0 ≡ record m.0 { posting = true; marks = m.0.marks ++ posted m.0.changes ∷ [] }
+      → (m.1 ≡ []) × (m.0.lead ≡ true) × (m.0.posting ≡ false) × (next ≡ posted m.0.changes) × (next < 2 ^ 28) → m''.0 ≡ record m'.0 { posting = false; changes = m'.0.changes ++ Post x ∷ [] } → m''.1 ≡ [] → posted m.0.changes + 1 < 2 ^ 28
       → (m''.1 ≡ []) × (m''.0.lead ≡ true) × (m''.0.posting ≡ false) × (next + 1 ≡ posted m''.0.changes) × (next + 1 < 2 ^ 28)
-  idle_again m m' m'' n next x h hit i is bare few = let e = (h (hit ∙ i.3)).0 in let cs = ap (λ (v : View T K). v.changes) e in (
+  idle_again m m' m'' next x e i is bare few = let cs = ap (λ (v : View T K). v.changes) e in let i₃ = i.3 in (
     bare,
     ap (λ (v : View T K). v.lead) is ∙ (ap (λ (v : View T K). v.lead) e ∙ i.1),
     ap (λ (v : View T K). v.posting) is,
     ap (λ (k : ℕ). k + 1) i.3 ∙ sym (ap (λ (v : View T K). posted v.changes) is ∙ (posted_post m'.0.changes x ∙ ap (λ (k : ℕ). k + 1) (ap posted cs))),
-    few,
+    omega arith,
   )

@@ -93,8 +93,9 @@ module _ {T : Type 0} where
         ready = λ e. let q = r.ready e in else (n % cap) (apart ws (n % cap) k (λ f. omega arith) a here) ∙ q;
       }
 
-  -- the load of a place that is not ready for the ticket n shows the ticket before, whose item was not yet marked emptied
-  pub still_full : (xs : List T) (c : ℕ) (p : Bool) (cap : ℕ) (ws : List ℕ) (hs : Homes T) → Ring xs c p cap ws hs → get_or ws (1 + length xs % cap) 0 ≢ length xs → get_or ws (1 + length xs % cap) 0 + cap ≡ length xs
-  still_full xs c p cap ws hs r ne = let n : ℕ = length xs in let a : ℕ = n % cap in let places = r.places in let low : a < cap = mod-lt n places in let m : ℕ = get_or ws (1 + a) 0 in let k = r.marks a low in
-      let k₀ = k.at_place in let k₁ = k.least in let k₂ = k.most in ⊎_elim (λ (l : m < n). ⊎_elim (λ (z : n < m + cap). absurd (ne (one_turn m n cap (omega arith) z k₀))) (λ z. omega arith) (cases_lt n (m + cap)))
-      (λ (l : n ≤ m). absurd (ne (sym (one_turn n m cap l k₂ (sym k₀))))) (cases_lt m n)
+  -- the place of a ticket t that may be next there shows t, or the ticket before, whose item is not yet marked emptied
+  pub still_full : (xs : List T) (c : ℕ) (p : Bool) (cap : ℕ) (ws : List ℕ) (hs : Homes T) (t : ℕ) → Ring xs c p cap ws hs → length xs ≤ t → t < length xs + cap → get_or ws (1 + t % cap) 0 ≢ t → get_or ws (1 + t % cap) 0 + cap ≡ t
+  still_full xs c p cap ws hs t r lo hi ne = let n : ℕ = length xs in let places = r.places in let m : ℕ = get_or ws (1 + t % cap) 0 in let k = r.marks (t % cap) (mod-lt t places) in
+      let k₀ = k.at_place in let k₁ = k.least in let k₂ = k.most in ⊎_elim (λ (l : m < t). ⊎_elim (λ (z : t < m + cap). absurd (ne (one_turn m t cap (omega arith) z k₀)))
+      (λ z. one_turn (m + cap) t cap z (omega arith) (add-mod_right m cap ∙ k₀)) (cases_lt t (m + cap)))
+      (λ (l : t ≤ m). absurd (ne (sym (one_turn t m cap l (omega arith) (sym k₀))))) (cases_lt m t)

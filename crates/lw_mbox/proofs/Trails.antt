@@ -16,7 +16,7 @@ use Rattle.lw_mbox.specs.declared.view.Change.TheVariants.{Post, Set, Clear}
 use Rattle.lw_mbox.specs.declared.view.Got.{Got}
 use Rattle.lw_mbox.specs.declared.view.Steps.{Steps}
 use Rattle.lw_mbox.specs.Changes.{items, posted, is_on, after_change, shows, Shows}
-use Rattle.lw_mbox.specs.Trail.{Trail, start, saw, met, rests, both, EachLoad, IsFirst, StandsAt, IsNewer}
+use Rattle.lw_mbox.specs.Trail.{Trail, start, saw, met, both, EachLoad, EachNote, IsFirst, StandsAt, IsClosed, IsOpen, IsNewer, NeverClosed}
 use Rattle.lw_mbox.specs.History.{History, Bounded, Sound, IsRight}
 use Rattle.lw_mbox.specs.Rule.{Lights}
 use Rattle.std.proofs.lemmas.List.Sums.{fold_push}
@@ -63,8 +63,7 @@ module _ {T : Type 0} where
   pub stands_within : (cs : List (Change T)) (t : Trail) (p : ℕ) → StandsAt cs t p → p ≤ length cs
   stands_within cs start p h = omega arith
   stands_within cs (saw t w) p h = let f = h.1.1 in f.within
-  stands_within cs (met t n) p h = let a = stands_within cs t h.0 h.1.0 in let b = h.1.1 in let c = h.1.2 in omega arith
-  stands_within cs (rests t) p h = stands_within cs t p h
+  stands_within cs (met t n closed) p h = let a = stands_within cs t h.0 h.1.0 in let b = h.1.1 in let c = h.1.2 in omega arith
   stands_within cs (both t u) p h = let a = stands_within cs t h.0 h.1.1.0 in let b = stands_within cs u h.1.0 h.1.1.1 in let c = h.1.1.2 in omega arith
 
   first_more : (cs ds : List (Change T)) (q p : ℕ) (w : Word) → IsFirst cs q w p → IsFirst (cs ++ ds) q w p
@@ -79,16 +78,27 @@ module _ {T : Type 0} where
   pub stands_more : (cs ds : List (Change T)) (t : Trail) (p : ℕ) → StandsAt cs t p → StandsAt (cs ++ ds) t p
   stands_more cs ds start p h = h
   stands_more cs ds (saw t w) p h = (h.0, (stands_more cs ds t h.0 h.1.0, first_more cs ds h.0 p w h.1.1))
-  stands_more cs ds (met t n) p h = let long = length-append cs ds in let b = h.1.1 in (h.0, (stands_more cs ds t h.0 h.1.0, omega arith, h.1.2))
-  stands_more cs ds (rests t) p h = stands_more cs ds t p h
+  stands_more cs ds (met t n closed) p h = let long = length-append cs ds in let b = h.1.1 in (h.0, (stands_more cs ds t h.0 h.1.0, omega arith, h.1.2))
   stands_more cs ds (both t u) p h = (h.0, (h.1.0, (stands_more cs ds t h.0 h.1.1.0, stands_more cs ds u h.1.0 h.1.1.1, h.1.1.2)))
 
 pub each_weaker : (P Q : Word → Type 0) → ((w : Word) → P w → Q w) → (t : Trail) → EachLoad P t → EachLoad Q t
 each_weaker P Q f start h = tt
 each_weaker P Q f (saw t w) h = (each_weaker P Q f t h.0, f w h.1)
-each_weaker P Q f (met t n) h = each_weaker P Q f t h
-each_weaker P Q f (rests t) h = each_weaker P Q f t h
+each_weaker P Q f (met t n closed) h = each_weaker P Q f t h
 each_weaker P Q f (both t u) h = (each_weaker P Q f t h.0, each_weaker P Q f u h.1)
+
+pub notes_weaker : (P Q : Bool → Type 0) → ((b : Bool) → P b → Q b) → (t : Trail) → EachNote P t → EachNote Q t
+notes_weaker P Q f start h = tt
+notes_weaker P Q f (saw t w) h = notes_weaker P Q f t h
+notes_weaker P Q f (met t n closed) h = (notes_weaker P Q f t h.0, f closed h.1)
+notes_weaker P Q f (both t u) h = (notes_weaker P Q f t h.0, notes_weaker P Q f u h.1)
+
+-- what is older than a word without CLOSED has none
+pub never_closed : (t : Trail) (w : Word) → IsNewer t w → IsOpen w → NeverClosed t
+never_closed t w newer shut = (
+  each_weaker _ IsOpen (λ v k. ⊎_elim (λ (e : is_set Closed v.flags ≡ true). absurd (false≢true (sym shut ∙ (k.2 e).0))) (λ e. e) (cases_Bool (is_set Closed v.flags))) t newer.0,
+  notes_weaker _ (λ (b : Bool). b ≡ false) (λ b k. ⊎_elim (λ (e : b ≡ true). absurd (false≢true (sym shut ∙ k e))) (λ e. e) (cases_Bool b)) t newer.1,
+)
 
 -- a history that went on
 pub record Later {T : Type 0} (h h' : History T) : Type 0 where
@@ -120,6 +130,7 @@ module _ {T : Type 0} where
   sound_later h h' l t s = let p = s.stands in record {
     stands = (p.0, subst (λ (cs : List (Change T)). StandsAt cs t p.0) (sym l.grown) (stands_more h.changes l.more t p.0 p.1));
     loads = each_weaker (Bounded h) (Bounded h') (bounded_later h h' l) t s.loads;
+    notes = notes_weaker _ (λ (b : Bool). b ≡ true → is_on Closed h'.changes ≡ true) (λ b k e. (l.shut (k e)).0) t s.notes;
   }
 
   pub right_later : (h h' : History T) → Later h h' → (g : Got T) → IsRight h g → IsRight h' g
@@ -136,6 +147,10 @@ module _ {T : Type 0} where
   pub all_right_later : (h h' : History T) → Later h h' → (gs : List (Got T)) → All (IsRight h) gs → All (IsRight h') gs
   all_right_later h h' l gs a = All-weaker (IsRight h) (IsRight h') (right_later h h' l) gs a
 
-  -- no load of a sound trail is newer than a word with all posts and claims
-  pub newer_now : (h : History T) (w : Word) → w.posted ≡ posted h.changes → w.claimed ≡ h.claimed → (t : Trail) → EachLoad (Bounded h) t → IsNewer t w
-  newer_now h w p c t b = each_weaker (Bounded h) (λ v. (v.posted ≤ w.posted) × (v.claimed ≤ w.claimed)) (λ v k. let k₀ = k.posts in let k₁ = k.claims in (omega arith, omega arith)) t b
+  -- nothing in a sound trail is newer than a word with all posts, all claims and the CLOSED of now
+  pub newer_now : (h : History T) (w : Word) → w.posted ≡ posted h.changes → w.claimed ≡ h.claimed → is_set Closed w.flags ≡ is_on Closed h.changes → (t : Trail) → Sound h t → IsNewer t w
+  newer_now h w p c closed t s = (
+    each_weaker (Bounded h) (λ v. (v.posted ≤ w.posted) × (v.claimed ≤ w.claimed) × (IsClosed v → IsClosed w × (v.posted ≡ w.posted))) (λ v k. let k₀ = k.posts in let k₁ = k.claims in
+        (omega arith, omega arith, λ e. let z = k.shut e in (closed ∙ z.0, z.1 ∙ sym p))) t s.loads,
+    notes_weaker _ (λ (b : Bool). b ≡ true → IsClosed w) (λ b k e. closed ∙ k e) t s.notes,
+  )

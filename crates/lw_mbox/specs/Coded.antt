@@ -1,8 +1,8 @@
 -- Trails as data that a ghost field can hold.
-use Rattle.std.specs.Prelude.{◌≡◌, ℕ, cond, eqb, List, [], ◌∷◌, refl}
+use Rattle.std.specs.Prelude.{◌≡◌, ℕ, true, false, cond, eqb, List, [], ◌∷◌, refl}
 use mathlib.Core.Path.{◌∙◌, ap}
 use base.Stored.{Coded, coded_ℕ, coded_list, coded×, coded_via}
-use Rattle.lw_mbox.specs.Trail.{Trail, start, saw, met, rests, both}
+use Rattle.lw_mbox.specs.Trail.{Trail, start, saw, met, both}
 
 -- what makes a trail of the one or two made last, with its numbers
 abbrev Op : Type 0
@@ -19,7 +19,7 @@ two (u ∷ (t ∷ ts)) = both t u ∷ ts
 
 abbrev act : Op → List Trail → List Trail
 act o ts = cond (eqb o.0 0) (start ∷ ts) (cond (eqb o.0 1) (one (λ t. saw t record { posted = o.1; claimed = o.2; flags = o.3 }) ts)
-    (cond (eqb o.0 2) (one (λ t. met t o.1) ts) (cond (eqb o.0 3) (one rests ts) (two ts))))
+    (cond (eqb o.0 2) (one (λ t. met t o.1 (eqb o.2 1)) ts) (two ts)))
 
 abbrev run : List Op → List Trail → List Trail
 run [] ts = ts
@@ -28,15 +28,14 @@ run (o ∷ os) ts = run os (act o ts)
 abbrev ops : Trail → List Op → List Op
 ops start os = (0, 0, 0, 0) ∷ os
 ops (saw t w) os = ops t ((1, w.posted, w.claimed, w.flags) ∷ os)
-ops (met t n) os = ops t ((2, n, 0, 0) ∷ os)
-ops (rests t) os = ops t ((3, 0, 0, 0) ∷ os)
-ops (both t u) os = ops t (ops u ((4, 0, 0, 0) ∷ os))
+ops (met t n closed) os = ops t ((2, n, cond closed 1 0, 0) ∷ os)
+ops (both t u) os = ops t (ops u ((3, 0, 0, 0) ∷ os))
 
 run_ops : (t : Trail) (os : List Op) (ts : List Trail) → run (ops t os) ts ≡ run os (t ∷ ts)
 run_ops start os ts = refl
 run_ops (saw t w) os ts = run_ops t _ ts
-run_ops (met t n) os ts = run_ops t _ ts
-run_ops (rests t) os ts = run_ops t _ ts
+run_ops (met t n true) os ts = run_ops t _ ts
+run_ops (met t n false) os ts = run_ops t _ ts
 run_ops (both t u) os ts = run_ops t _ ts ∙ run_ops u _ (t ∷ ts)
 
 abbrev first : List Trail → Trail

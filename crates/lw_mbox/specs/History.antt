@@ -1,5 +1,5 @@
 -- What all steps on a mailbox have done together, and what one seat may know of it.
-use Rattle.std.specs.Prelude.{◌≡◌, ℕ, ◌^◌, ◌<◌, ◌≤◌, Bool, true, false, cond, ltb, eqb, List, All, sum_by}
+use Rattle.std.specs.Prelude.{◌≡◌, ℕ, ◌+◌, ◌^◌, ◌<◌, ◌≤◌, Bool, true, false, cond, ltb, eqb, List, All, sum_by}
 use mathlib.Core.Option.{some}
 use lib.ListN.{get_elem?}
 use Rattle.lw_base.specs.declared.event_word.Flag.TheVariants.{Rest, Closed}
@@ -9,7 +9,7 @@ use Rattle.lw_mbox.specs.declared.view.Change.{Change}
 use Rattle.lw_mbox.specs.declared.view.Got.{Got}
 use Rattle.lw_mbox.specs.declared.view.Steps.{Steps}
 use Rattle.lw_mbox.specs.Changes.{items, posted, is_on}
-use Rattle.lw_mbox.specs.Trail.{Trail, EachLoad, StandsAt, settings}
+use Rattle.lw_mbox.specs.Trail.{Trail, EachLoad, EachNote, StandsAt, IsClosed, IsOpen}
 
 -- what was done to a mailbox: the posts and changes of flags, oldest first, and how many tickets were claimed and how many of these fetched
 pub record History (T : Type 0) : Type 0 where
@@ -25,13 +25,9 @@ pub record IsWord (w : Word) : Type 0 where
   pub claims : w.claimed ≤ w.posted
   pub flags : w.flags < 2 ^ 8
 
--- CLOSED stands in the word
-abbrev pub IsClosed : Word → Type 0
-IsClosed w = is_set Closed w.flags ≡ true
-
--- CLOSED doesn't stand in the word
-abbrev pub IsOpen : Word → Type 0
-IsOpen w = is_set Closed w.flags ≡ false
+-- the word that a claim leaves
+abbrev pub claimed_one : Word → Word
+claimed_one w = record w { claimed = w.claimed + 1 }
 
 module _ {T : Type 0} where
   -- A word of the past: no number in it exceeds today's. Without CLOSED its claims are fetches; with it nothing was posted since. REST stands only where it was set
@@ -42,10 +38,11 @@ module _ {T : Type 0} where
     pub shut : IsClosed w → (is_on Closed h.changes ≡ true) × (w.posted ≡ posted h.changes)
     pub rests : is_set Rest w.flags ≡ true → h.rested ≡ true
 
-  -- a trail has a place, and its loads are words of the past
+  -- a trail has a place, its loads are words of the past, and its notes tell CLOSED only where it is set
   pub record Sound (h : History T) (t : Trail) : Type 0 where
     pub stands : (p : ℕ) × StandsAt h.changes t p
     pub loads : EachLoad (Bounded h) t
+    pub notes : EachNote (λ closed. closed ≡ true → is_on Closed h.changes ≡ true) t
 
   -- what was got is the item posted as that ticket. The tickets fetched are below the number of fetches, the drained ones are not
   pub record IsRight (h : History T) (g : Got T) : Type 0 where
@@ -74,8 +71,8 @@ module _ {T : Type 0} where
   abbrev pub AllBelow : ℕ → List (Got T) → Type 0
   AllBelow n gs = All (λ g. g.ticket < n) gs
 
-  -- What a Poster knows of the Takers that it took back, out of a history with its own changes. With all parts it knows everything that was got
-  pub record Told (changes : List (Change T)) (parts : ℕ) (back : List Steps) (got : List (Got T)) : Type 0 where
+  -- What a Poster knows of the Takers that it took back, out of a history with its own changes. With all parts it knows everything that was got, and REST was set only where a Taker set it
+  pub record Told (changes : List (Change T)) (parts settings : ℕ) (back : List Steps) (got : List (Got T)) : Type 0 where
     pub history : History T
     pub same : history.changes ≡ changes
     pub claims : history.claimed ≤ posted changes
@@ -84,4 +81,4 @@ module _ {T : Type 0} where
     pub right : All (IsRight history) got
     pub once : (t : ℕ) → times t got ≤ 1
     pub all : parts ≡ 256 → GotAll history.claimed got
-    pub rests : parts ≡ 256 → history.rested ≡ true → 1 ≤ sum_by (λ s. settings s.met) back
+    pub rests : parts ≡ 256 → history.rested ≡ true → 1 ≤ settings

@@ -1,5 +1,5 @@
 -- The rule of a mailbox's table. Word 0 is the event word. Word 1 + j is the next ticket that may be posted at the place j, and slot j has the item posted there that is not taken yet.
-use Rattle.std.specs.Prelude.{◌≡◌, ◌≢◌, ℕ, ◌+◌, ◌*◌, ◌/◌, ◌%◌, ◌^◌, ◌<◌, ◌≤◌, Bool, true, false, cond, ltb, List, [], ◌∷◌, length, get_or, All, Option, Some, None, sum_by}
+use Rattle.std.specs.Prelude.{◌≡◌, ◌≢◌, ℕ, ◌+◌, ◌*◌, ◌/◌, ◌%◌, ◌^◌, ◌<◌, ◌≤◌, Bool, true, false, cond, ltb, List, [], ◌∷◌, length, get_or, All, Option, Some, None}
 use mathlib.Core.Option.{some}
 use mathlib.Core.Option as maybe
 use lib.ListN.{get_elem?}
@@ -11,7 +11,6 @@ use Rattle.lw_base.specs.EventWord.{is_set}
 use Rattle.lw_mbox.specs.declared.view.Change.{Change}
 use Rattle.lw_mbox.specs.declared.view.View.{View}
 use Rattle.lw_mbox.specs.Changes.{items, posted, is_on}
-use Rattle.lw_mbox.specs.Trail.{settings, start}
 use Rattle.lw_mbox.specs.History.{History, Sound, IsRight, times}
 
 -- an event word as one number: the posts in 28 bits, the claims in 28, the flags in 8
@@ -29,6 +28,11 @@ pub record Marked (n cap j m : ℕ) : Type 0 where
   pub at_place : m % cap ≡ j
   pub least : n ≤ m + cap
   pub most : m < n + cap
+
+-- the Poster found m as the next ticket of its place, which stays so while m isn't posted; n items were posted
+pub record Found (n cap : ℕ) (words : List ℕ) (m : ℕ) : Type 0 where
+  pub few : m + 1 < 2 ^ 28
+  pub stays : n ≤ m → get_or words (1 + m % cap) 0 ≡ m
 
 abbrev pub Homes : Type 0 → Type 0
 Homes T = List (maybe.Option (Option T))
@@ -62,18 +66,15 @@ module _ {T : Type 0} where
     pub fit : All fits (items h.changes)
 
 module _ {T K : Type 0} where
-  -- how often a seat knows REST as set
-  abbrev pub rests_of : View T K → ℕ
-  rests_of v = settings v.trail.met + sum_by (λ s. settings s.met) v.back
-
-  -- what the seat i knows is so
+  -- what the seat i knows is so. A place that the Poster found stays until it posts there
   pub record Knows (key : K) (h : History T) (posting : Bool) (cap : ℕ) (words : List ℕ) (i : ℕ) (v : View T K) : Type 0 where
     pub keyed : (k : K) → v.key ≡ Some k → k ≡ key
-    pub leads : v.lead ≡ true → (i ≡ 0) × (v.changes ≡ h.changes) × (v.posting ≡ posting) × (v.trail.met ≡ start)
+    pub leads : v.lead ≡ true → (i ≡ 0) × (v.changes ≡ h.changes) × (v.posting ≡ posting)
+    pub marks : v.lead ≡ true → All (Found (posted h.changes) cap words) v.marks
     pub trail : Sound h v.trail.met
     pub back : All (λ s. Sound h s.met) v.back
     pub got : All (IsRight h) v.got
-    pub partless : v.parts ≡ 0 → (v.got ≡ []) × (rests_of v ≡ 0)
+    pub partless : v.parts ≡ 0 → (v.got ≡ []) × (v.settings ≡ 0)
     pub holding : (k : ℕ) → v.holds ≡ Some k → (k < h.claimed) × (get_or words (1 + k % cap) 0 ≡ k) × (1 ≤ times k v.got)
 
   abbrev pub total : (View T K → ℕ) → List (View T K) → ℕ
@@ -91,4 +92,4 @@ module _ {T K : Type 0} where
     pub each : (i : ℕ) (v : View T K) → get_elem? s.views i ≡ some v → Knows key history posting cap s.words i v
     pub once : (n : ℕ) → total (λ v. times n v.got) s.views ≡ cond (ltb n history.claimed) 1 0
     pub whole : total (λ v. v.parts) s.views ≡ 256
-    pub rests : history.rested ≡ true → 1 ≤ total rests_of s.views
+    pub rests : history.rested ≡ true → 1 ≤ total (λ v. v.settings) s.views

@@ -1,11 +1,10 @@
 -- What callers see of a mailbox, its Poster, its Takers and notes, and what their calls answer.
-use Rattle.std.specs.Prelude.{◌≡◌, ◌≢◌, ℕ, ◌+◌, ◌^◌, ◌<◌, min, Bool, true, false, List, [], ◌∷◌, ◌++◌, Option, Some, Result, Ok, Err}
+use Rattle.std.specs.Prelude.{◌≡◌, ◌≢◌, ℕ, ◌+◌, ◌^◌, ◌<◌, ◌≤◌, min, Bool, true, false, List, [], ◌∷◌, ◌++◌, Option, Some, Result, Ok, Err}
 use Rattle.atomic_table.specs.Seated.{TableId}
 use Rattle.lw_base.specs.declared.event_word.Flag.TheVariants.{Listen}
 use Rattle.lw_base.specs.declared.event_word.Word.{Word}
 use Rattle.lw_base.specs.EventWord.{is_set}
 use Rattle.lw_mbox.specs.declared.view.Change.{Change}
-use Rattle.lw_mbox.specs.declared.view.Change.TheVariants.{Post}
 use Rattle.lw_mbox.specs.declared.view.Got.{Got}
 use Rattle.lw_mbox.specs.declared.view.Steps.{Steps}
 use Rattle.lw_mbox.specs.declared.answers.PostFault.{PostFault}
@@ -17,8 +16,8 @@ use Rattle.lw_mbox.specs.declared.answers.Fetch.TheVariants as fetch
 use Rattle.lw_mbox.specs.declared.answers.Drain.{Drain}
 use Rattle.lw_mbox.specs.declared.answers.Drain.TheVariants as drain
 use Rattle.lw_mbox.specs.Changes.{posted}
-use Rattle.lw_mbox.specs.Trail.{Trail, saw, rests, IsNewer}
-use Rattle.lw_mbox.specs.History.{IsWord, IsClosed, IsOpen, AllBelow, Parted, GotAll}
+use Rattle.lw_mbox.specs.Trail.{Trail, saw, IsClosed, IsOpen, IsNewer, NeverClosed}
+use Rattle.lw_mbox.specs.History.{IsWord, claimed_one, AllBelow, Parted, GotAll}
 use Rattle.lw_mbox.specs.Plays.{ticket}
 
 -- a mailbox, what its items fit
@@ -27,7 +26,7 @@ pub record Named (K : Type 0) : Type 0 where
   pub capacity : ℕ
   pub key : K
 
--- a Poster: what it did, the refusals, what its loads of places found, and the Takers that it took back
+-- a Poster: what it did, the refusals, what its loads of places found, and of the Takers that it took back the parts, the settings of REST, the trails and the tickets
 pub record Desk (T K : Type 0) : Type 0 where
   pub board : TableId
   pub key : Option K
@@ -35,22 +34,25 @@ pub record Desk (T K : Type 0) : Type 0 where
   pub refusals : ℕ
   pub marks : List ℕ
   pub parts : ℕ
+  pub settings : ℕ
   pub back : List Steps
   pub got : List (Got T)
 
--- a Taker: its parts of the right to know the whole, what it has seen, and what it got
+-- a Taker: its parts of the right to know the whole, how often it set REST, what it has seen, and what it got
 pub record Hand (T K : Type 0) : Type 0 where
   pub board : TableId
   pub key : Option K
   pub parts : ℕ
+  pub settings : ℕ
   pub trail : Trail
   pub got : List (Got T)
 
--- a note of so many changes
+-- a note of so many changes, and of whether CLOSED was set by then
 pub record Noted (K : Type 0) : Type 0 where
   pub board : TableId
   pub key : Option K
   pub changes : ℕ
+  pub closed : Bool
 
 -- the token is of this mailbox
 abbrev pub IsOf : {K : Type 0} → Named K → TableId → Option K → Type 0
@@ -66,38 +68,43 @@ IsFor Accepts w = is_set Listen w.flags ≡ true
 IsFor Reads w = is_set Listen w.flags ≡ false
 
 module _ {T K : Type 0} where
-  -- how a post with the capacity leaves the Poster, and what it answers
-  abbrev pub Posts : ℕ → Desk T K → T → Result ℕ (PostFault × T) → Desk T K → Type 0
-  Posts cap d x (Ok t) e = (t ≡ posted d.changes) × (t + 1 < 2 ^ 28) × (e ≡ record d { changes = d.changes ++ Post x ∷ []; marks = d.marks ++ t ∷ [] })
-  Posts cap d x (Err (Full, y)) e = (y ≡ x) × (posted d.changes + 1 < 2 ^ 28)
-      × ((m : ℕ) × ((m + cap ≡ posted d.changes) × (e ≡ record d { refusals = raised d.refusals; marks = d.marks ++ m ∷ [] })))
-  Posts cap d x (Err (Worn, y)) e = (y ≡ x) × (posted d.changes + 1 ≡ 2 ^ 28) × (e ≡ record d { refusals = raised d.refusals })
+  -- whether, after n more posts, one more has a place, and how the look at it leaves the Poster
+  abbrev pub Offers : ℕ → Desk T K → ℕ → Result (Unit {0}) PostFault → Desk T K → Type 0
+  Offers cap d n (Ok u) e = (posted d.changes + n + 1 < 2 ^ 28) × (e ≡ record d { marks = d.marks ++ (posted d.changes + n) ∷ [] })
+  Offers cap d n (Err Full) e = (posted d.changes + n + 1 < 2 ^ 28) × ((m : ℕ) × ((m + cap ≡ posted d.changes + n) × (e ≡ record d { refusals = raised d.refusals; marks = d.marks ++ m ∷ [] })))
+  Offers cap d n (Err Worn) e = (2 ^ 28 ≤ posted d.changes + n + 1) × (e ≡ record d { refusals = raised d.refusals })
 
   -- the Taker after a load of the event word
   abbrev pub sees : Hand T K → Word → Hand T K
   sees h w = record h { trail = saw h.trail w }
 
-  -- the word's next ticket t was claimed, with its item x, and is above every ticket that the Taker had. The claim saw the word that it left
+  -- a word that a Taker may be answered: nothing that it saw or met is newer, and each ticket that it had is below the word's claims
+  pub record IsAnswer (h : Hand T K) (w : Word) : Type 0 where
+    pub word : IsWord w
+    pub newer : IsNewer h.trail w
+    pub above : AllBelow w.claimed h.got
+
+  -- the word's next ticket t was claimed, with its item x. The claim saw the word that it left
   abbrev pub Gets : (T → Type 0) → Bool → Hand T K → Word → ℕ → T → Hand T K → Type 0
-  Gets fits drained h w t x e = (t ≡ w.claimed) × (w.claimed < w.posted) × fits x × AllBelow t h.got
-      × (e ≡ record (sees (sees h w) w) { got = h.got ++ ticket t x drained ∷ [] })
+  Gets fits drained h w t x e = (t ≡ w.claimed) × (w.claimed < w.posted) × fits x
+      × (e ≡ record (sees (sees h w) (claimed_one w)) { got = h.got ++ ticket t x drained ∷ [] })
 
   -- what a fetch for a side answers, by the word that it loaded, and how it leaves the Taker
   abbrev pub Fetches : (T → Type 0) → Side → Hand T K → Fetch T → Hand T K → Type 0
-  Fetches fits side h (fetch.Item t x) e = (w : Word) × (IsWord w × IsNewer h.trail w × IsOpen w × IsFor side w × Gets fits false h w t x e)
-  Fetches fits side h (fetch.Closed w) e = IsWord w × IsNewer h.trail w × IsClosed w × (e ≡ sees h w)
-  Fetches fits side h (fetch.Other w) e = IsWord w × IsNewer h.trail w × IsOpen w × (¬ IsFor side w) × (e ≡ sees h w)
-  Fetches fits side h (fetch.Empty w) e = IsWord w × IsNewer h.trail w × IsOpen w × IsFor side w × (w.posted ≡ w.claimed) × (e ≡ sees h w)
-  Fetches fits side h (fetch.Busy v w) e = IsWord v × IsNewer h.trail v × IsOpen v × IsFor side v × (v.claimed < v.posted) × IsWord w × IsNewer (saw h.trail v) w × (v ≢ w) × (e ≡ sees (sees h v) w)
+  Fetches fits side h (fetch.Item t x) e = (w : Word) × (IsAnswer h w × IsOpen w × IsFor side w × Gets fits false h w t x e)
+  Fetches fits side h (fetch.Closed w) e = IsAnswer h w × IsClosed w × (e ≡ sees h w)
+  Fetches fits side h (fetch.Other w) e = IsAnswer h w × IsOpen w × (¬ IsFor side w) × (e ≡ sees h w)
+  Fetches fits side h (fetch.Empty w) e = IsAnswer h w × IsOpen w × IsFor side w × (w.posted ≡ w.claimed) × (e ≡ sees h w)
+  Fetches fits side h (fetch.Busy v w) e = IsAnswer h v × IsOpen v × IsFor side v × (v.claimed < v.posted) × IsAnswer (sees h v) w × (v ≢ w) × (e ≡ sees (sees h v) w)
 
   -- what a drain answers, by the word that it loaded, and how it leaves the Taker
   abbrev pub Drains : (T → Type 0) → Hand T K → Drain T → Hand T K → Type 0
-  Drains fits h (drain.Item t x) e = (w : Word) × (IsWord w × IsNewer h.trail w × IsClosed w × Gets fits true h w t x e)
-  Drains fits h (drain.Done w) e = IsWord w × IsNewer h.trail w × IsClosed w × (w.posted ≡ w.claimed) × (e ≡ sees h w) × Parted h.got × (h.parts ≡ 256 → GotAll w.posted h.got)
-  Drains fits h (drain.Alive w) e = IsWord w × IsNewer h.trail w × IsOpen w × (e ≡ sees h w)
-  Drains fits h (drain.Busy v w) e = IsWord v × IsNewer h.trail v × IsClosed v × (v.claimed < v.posted) × IsWord w × IsNewer (saw h.trail v) w × (v ≢ w) × (e ≡ sees (sees h v) w)
+  Drains fits h (drain.Item t x) e = (w : Word) × (IsAnswer h w × IsClosed w × Gets fits true h w t x e)
+  Drains fits h (drain.Done w) e = IsAnswer h w × IsClosed w × (w.posted ≡ w.claimed) × (e ≡ sees h w) × Parted h.got × (h.parts ≡ 256 → GotAll w.posted h.got)
+  Drains fits h (drain.Alive w) e = IsAnswer h w × IsOpen w × NeverClosed h.trail × (e ≡ sees h w)
+  Drains fits h (drain.Busy v w) e = IsAnswer h v × IsClosed v × (v.claimed < v.posted) × IsAnswer (sees h v) w × (v ≢ w) × (e ≡ sees (sees h v) w)
 
   -- a Taker after it set REST, or cleared it
   abbrev pub rested : Bool → Hand T K → Hand T K
-  rested true h = record h { trail = rests h.trail }
+  rested true h = record h { settings = h.settings + 1 }
   rested false h = h

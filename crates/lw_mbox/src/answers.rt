@@ -1,12 +1,12 @@
 //! What the calls of a mailbox answer.
 use lw_base::Word;
 
-/// Why a post was refused.
+/// Why there is no place.
 #[derive(Clone, Copy, Debug, PartialEq, Eq)]
 pub enum PostFault {
-    /// The item posted so many tickets before as there are places is not yet taken.
+    /// The item whose place it is, posted so many tickets before as there are places, is not yet taken.
     Full,
-    /// 2^28 - 1 items were posted.
+    /// 2^28 - 1 items were posted, those ahead counted in.
     Worn,
 }
 

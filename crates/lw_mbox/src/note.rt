@@ -23,9 +23,9 @@ impl<T: Mail<K>, K> Model for Note<T, K> {
 
     ghost coded = { Prim.hlevel (codes, table_id_coded) };
 
-    ghost view = { λ n. record { board = n.seat.table_id; key = n.seat.me.0.key; changes = noted n.seat.me.0.trail.met } };
+    ghost view = { λ n. record { board = n.seat.table_id; key = n.seat.me.0.key; changes = (noted n.seat.me.0.trail.met).0; closed = (noted n.seat.me.0.trail.met).1 } };
 
-    ghost invariant = { λ n. (n.seat.me.1 ≡ []) × (n.seat.me.0 ≡ fresh n.seat.me.0.key 0 (met start (noted n.seat.me.0.trail.met))) };
+    ghost invariant = { λ n. (n.seat.me.1 ≡ []) × (n.seat.me.0 ≡ fresh n.seat.me.0.key 0 (met start (noted n.seat.me.0.trail.met).0 (noted n.seat.me.0.trail.met).1)) };
 }
 
 impl<T: Mail<K>, K> Drop for Note<T, K> {
@@ -37,7 +37,7 @@ impl<T: Mail<K>, K> Drop for Note<T, K> {
 impl<T: Mail<K>, K> Note<T, K> {
     // What a Taker takes in.
     pub(crate) fn into_seat(self) -> Place<T, K>
-        ensures { (result.table_id ≡ self.board) × (result.me.1 ≡ []) × (result.me.0 ≡ fresh self.key 0 (met start self.changes)) }
+        ensures { (result.table_id ≡ self.board) × (result.me.1 ≡ []) × (result.me.0 ≡ fresh self.key 0 (met start self.changes self.closed)) }
     {
         let Note { seat } = self;
         seat

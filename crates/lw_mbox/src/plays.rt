@@ -1,16 +1,22 @@
 //! What each step on a mailbox's table tells, and how seats are cut and joined.
 ghost use Rattle.std.specs.Prelude.{◌-◌, true, false, length};
 ghost use Rattle.lw_mbox.specs.Trail.{start, met};
-ghost use Rattle.lw_mbox.specs.Plays.{fresh, marked, announced, sets_flag, clears_flag, loaded, claimed_at, emptied, rested_at, calmed, asks, tallied, tells, joined, gathered, spent};
+ghost use Rattle.lw_mbox.specs.Plays.{fresh, looked, taken, announced, sets_flag, clears_flag, loaded, claimed_at, emptied, rested_at, calmed, asks, tallied, tells, joined, gathered, spent};
 
 use crate::rule::Mail;
 use crate::view::View;
 use atomic_table::{Join, Play, Split};
 
-pub(crate) struct Marked;
+pub(crate) struct Looked;
 
-impl<T, K> Play<Option<T>, View<T, K>> for Marked {
-    ghost then = { marked };
+impl<T, K> Play<Option<T>, View<T, K>> for Looked {
+    ghost then = { looked };
+}
+
+pub(crate) struct Taken;
+
+impl<T, K> Play<Option<T>, View<T, K>> for Taken {
+    ghost then = { taken };
 }
 
 pub(crate) struct Announced;
@@ -108,12 +114,14 @@ pub(crate) struct Jot;
 
 impl<T, K> Split<View<T, K>> for Jot {
     ghost use Rattle.std.specs.Prelude.{length};
+    ghost use Rattle.lw_base.specs.declared.event_word.Flag.TheVariants.{Closed};
+    ghost use Rattle.lw_mbox.specs.Changes.{is_on};
     ghost use Rattle.lw_mbox.specs.Trail.{start, met};
     ghost use Rattle.lw_mbox.specs.Plays.{fresh};
 
     ghost left = { λ v. v };
 
-    ghost right = { λ v. fresh v.key 0 (met start (length v.changes)) };
+    ghost right = { λ v. fresh v.key 0 (met start (length v.changes) (is_on Closed v.changes)) };
 }
 
 pub(crate) struct Joins;

@@ -1,17 +1,17 @@
 //! The one that posts, and changes the flags but REST.
-ghost use Rattle.std.specs.Prelude.{◌≡◌, ◌≢◌, ◌+◌, ◌%◌, ◌^◌, ◌<◌, ◌≤◌, ◌++◌, [], ◌∷◌, true, false, length, Some};
+ghost use Rattle.std.specs.Prelude.{◌≡◌, ◌≢◌, ◌+◌, ◌%◌, ◌^◌, ◌<◌, ◌≤◌, ◌++◌, [], ◌∷◌, true, false, length, Contains, Some};
 ghost use Rattle.lw_base.specs.declared.event_word.Flag.TheVariants.{Rest, Closed};
 ghost use Rattle.lw_mbox.specs.declared.view.Change.TheVariants.{Post, Set, Clear};
 ghost use Rattle.lw_mbox.specs.Changes.{posted, is_on, Shows};
 ghost use Rattle.lw_mbox.specs.Trail.{met, start};
 ghost use Rattle.lw_mbox.specs.History.{IsWord, Told};
 ghost use Rattle.lw_mbox.specs.Plays.{steps};
-ghost use Rattle.lw_mbox.specs.Tokens.{IsOf, Posts};
+ghost use Rattle.lw_mbox.specs.Tokens.{IsOf, Offers};
 
 use crate::answers::PostFault;
 use crate::mbox::Mbox;
 use crate::note::Note;
-use crate::plays::{Announced, ClearsFlag, Gathers, Jot, Marked, SetsFlag, Tells};
+use crate::plays::{Announced, ClearsFlag, Gathers, Jot, Looked, SetsFlag, Taken, Tells};
 use crate::rule::{Mail, Place, Ring};
 use crate::taker::Taker;
 use crate::words::{POST, read};
@@ -40,7 +40,7 @@ impl<T: Mail<K>, K> Model for Poster<T, K> {
 
     ghost coded = { Prim.hlevel (codes, table_id_coded, trail_coded) };
 
-    ghost view = { λ p. let v = p.seat.me.0 in record { board = p.seat.table_id; key = v.key; changes = v.changes; refusals = p.refusals; marks = v.marks; parts = v.parts; back = v.back; got = v.got } };
+    ghost view = { λ p. let v = p.seat.me.0 in record { board = p.seat.table_id; key = v.key; changes = v.changes; refusals = p.refusals; marks = v.marks; parts = v.parts; settings = v.settings; back = v.back; got = v.got } };
 
     ghost invariant = { λ p. (p.seat.me.1 ≡ []) × (p.seat.me.0.lead ≡ true) × (p.seat.me.0.posting ≡ false) × (p.next ≡ posted p.seat.me.0.changes) × (p.next < 2 ^ 28) };
 }
@@ -56,28 +56,42 @@ impl<T: Mail<K>, K> Drop for Poster<T, K> {
 }
 
 impl<T: Mail<K>, K> Poster<T, K> {
-    /// Posts the item as the next ticket, or gives it back.
-    pub fn try_post(&mut self, mbox: &Mbox<T, K>, item: T) -> Result<u32, (PostFault, T)>
+    /// Whether, after so many more posts, one more has a place. A place that was found stays until this Poster posts there.
+    pub fn has_place(&mut self, mbox: &Mbox<T, K>, ahead: u32) -> Result<(), PostFault>
         requires own { IsOf mbox.now self.old.board self.old.key }
+        requires ahead { ahead < mbox.now.capacity }
+        ensures { Offers mbox.now.capacity self.old ahead result self.new }
+    {
+        let capacity = mbox.capacity;
+        let ticket = self.next + ahead;
+        if ticket >= WORN {
+            self.refusals = self.refusals.saturating_add(1);
+            return Err(PostFault::Worn);
+        }
+        let place = (ticket % capacity) as usize;
+        let found = mbox.table.shared.load::<Looked>(&mut self.seat, 1 + place);
+        if found != ticket as u64 {
+            self.refusals = self.refusals.saturating_add(1);
+            return Err(PostFault::Full);
+        }
+        Ok(())
+    }
+
+    /// Posts the item at the place that was found for it, and gives its ticket.
+    pub fn post(&mut self, mbox: &Mbox<T, K>, item: T) -> u32
+        requires own { IsOf mbox.now self.old.board self.old.key }
+        requires place { Contains self.old.marks (posted self.old.changes) }
         requires unclosed { is_on Closed self.old.changes ≡ false }
         requires fits { T.fits mbox.now.key item }
-        ensures { Posts mbox.now.capacity self.old item result self.new }
+        ensures ticket { result ≡ posted self.old.changes }
+        ensures after { self.new ≡ record self.old { changes = self.old.changes ++ Post item ∷ []; marks = self.old.marks ++ result ∷ [] } }
     {
-        if self.next >= WORN {
-            self.refusals = self.refusals.saturating_add(1);
-            return Err((PostFault::Worn, item));
-        }
-        let ring = &mbox.table;
-        let place = (self.next % mbox.capacity) as usize;
-        let found = ring.shared.load::<Marked>(&mut self.seat, 1 + place);
-        if found != self.next as u64 {
-            self.refusals = self.refusals.saturating_add(1);
-            return Err((PostFault::Full, item));
-        }
-        put(ring, &mut self.seat, place, item);
         let ticket = self.next;
+        let place = (ticket % mbox.capacity) as usize;
+        mbox.table.shared.load::<Taken>(&mut self.seat, 1 + place);
+        put(&mbox.table, &mut self.seat, place, item);
         self.next += 1;
-        Ok(ticket)
+        ticket
     }
 
     /// Sets a flag, and gives the event word as it was.
@@ -114,7 +128,7 @@ impl<T: Mail<K>, K> Poster<T, K> {
     pub fn note(&mut self, mbox: &Mbox<T, K>) -> Note<T, K>
         requires own { IsOf mbox.now self.old.board self.old.key }
         ensures same { self.new ≡ self.old }
-        ensures note { result ≡ record { board = self.old.board; key = self.old.key; changes = length self.old.changes } }
+        ensures note { result ≡ record { board = self.old.board; key = self.old.key; changes = length self.old.changes; closed = is_on Closed self.old.changes } }
     {
         Note {
             seat: mbox.table.shared.split_seat::<Jot>(&mut self.seat),
@@ -125,8 +139,8 @@ impl<T: Mail<K>, K> Poster<T, K> {
     pub fn gather(&mut self, mbox: &Mbox<T, K>, taker: Taker<T, K>)
         requires own { IsOf mbox.now self.old.board self.old.key }
         requires theirs { IsOf mbox.now taker.board taker.key }
-        ensures after { self.new ≡ record self.old { parts = self.old.parts + taker.parts; back = self.old.back ++ steps taker.trail ∷ []; got = self.old.got ++ taker.got } }
-        ensures told { Told self.new.changes self.new.parts self.new.back self.new.got }
+        ensures after { self.new ≡ record self.old { parts = self.old.parts + taker.parts; settings = self.old.settings + taker.settings; back = self.old.back ++ steps taker.trail ∷ []; got = self.old.got ++ taker.got } }
+        ensures told { Told self.new.changes self.new.parts self.new.settings self.new.back self.new.got }
     {
         mbox.table
             .shared

@@ -1,10 +1,12 @@
 //! One that fetches and drains.
 ghost use Rattle.std.specs.Prelude.{◌≡◌, ◌≢◌, ℕ, ◌+◌, ◌-◌, ◌%◌, ◌<◌, ◌≤◌, ◌^◌, ◌++◌, ◌↔◌, [], ◌∷◌, Some, None, true, false, IsTrue};
-ghost use Rattle.lw_mbox.specs.Trail.{start, met, both, IsNewer};
+ghost use Rattle.lw_base.specs.declared.event_word.Flag.TheVariants.{Rest};
+ghost use Rattle.lw_base.specs.EventWord.{is_set};
+ghost use Rattle.lw_mbox.specs.Trail.{start, met, both, IsOpen, IsClosed};
 ghost use Rattle.lw_mbox.specs.Rule.{word_of};
 ghost use Rattle.lw_mbox.specs.Plays.{Claims};
-ghost use Rattle.lw_mbox.specs.History.{IsWord, IsOpen, IsClosed, Parted, GotAll, times};
-ghost use Rattle.lw_mbox.specs.Tokens.{IsOf, IsFor, sees, Fetches, Drains, rested};
+ghost use Rattle.lw_mbox.specs.History.{Parted, GotAll, times};
+ghost use Rattle.lw_mbox.specs.Tokens.{IsOf, IsFor, IsAnswer, sees, Fetches, Drains, rested};
 
 use crate::answers::{Drain, Fetch, Side};
 use crate::mbox::Mbox;
@@ -33,7 +35,7 @@ impl<T: Mail<K>, K> Model for Taker<T, K> {
 
     ghost coded = { Prim.hlevel (codes, table_id_coded, trail_coded) };
 
-    ghost view = { λ t. let v = t.seat.me.0 in record { board = t.seat.table_id; key = v.key; parts = v.parts; trail = v.trail.met; got = v.got } };
+    ghost view = { λ t. let v = t.seat.me.0 in record { board = t.seat.table_id; key = v.key; parts = v.parts; settings = v.settings; trail = v.trail.met; got = v.got } };
 
     ghost invariant = { λ t. (t.seat.me.1 ≡ []) × (t.seat.me.0.lead ≡ false) × (t.seat.me.0.back ≡ []) × (0 < t.seat.me.0.parts) };
 }
@@ -71,7 +73,7 @@ impl<T: Mail<K>, K> Taker<T, K> {
         }
     }
 
-    /// Takes the next ticket's item out of a closed mailbox.
+    /// Takes the next ticket's item out of a closed mailbox. It answers `Alive` only to a Taker that has met no note and loaded no word with CLOSED.
     pub fn drain(&mut self, mbox: &Mbox<T, K>) -> Drain<T>
         requires own { IsOf mbox.now self.old.board self.old.key }
         ensures { Drains (T.fits mbox.now.key) self.old result self.new }
@@ -98,27 +100,33 @@ impl<T: Mail<K>, K> Taker<T, K> {
     pub fn word(&mut self, mbox: &Mbox<T, K>) -> Word
         requires own { IsOf mbox.now self.old.board self.old.key }
         ensures after { self.new ≡ sees self.old result }
-        ensures word { IsWord result }
-        ensures newer { IsNewer self.old.trail result }
+        ensures answer { IsAnswer self.old result }
         ensures parted { Parted self.old.got }
         ensures all { self.old.parts ≡ 256 → GotAll result.claimed self.old.got }
     {
         read(mbox.table.shared.load::<Loaded>(&mut self.seat, 0))
     }
 
-    /// Sets or clears REST.
-    pub fn rest(&mut self, mbox: &Mbox<T, K>, on: bool)
+    /// Sets or clears REST, and gives the event word that it leaves.
+    pub fn rest(&mut self, mbox: &Mbox<T, K>, on: bool) -> Word
         requires own { IsOf mbox.now self.old.board self.old.key }
-        ensures { self.new ≡ rested on self.old }
+        ensures after { self.new ≡ sees (rested on self.old) result }
+        ensures answer { IsAnswer self.old result }
+        ensures rest { is_set Rest result.flags ≡ on }
     {
         if on {
-            mbox.table
+            let found = mbox
+                .table
                 .shared
                 .fetch_or::<Rested>(&mut self.seat, 0, REST);
+            read(found | REST)
         } else {
-            mbox.table
+            let mask = u64::MAX - REST;
+            let found = mbox
+                .table
                 .shared
-                .fetch_and::<Calmed>(&mut self.seat, 0, u64::MAX - REST);
+                .fetch_and::<Calmed>(&mut self.seat, 0, mask);
+            read(found & mask)
         }
     }
 
@@ -126,9 +134,8 @@ impl<T: Mail<K>, K> Taker<T, K> {
     pub fn meet(&mut self, mbox: &Mbox<T, K>, note: Note<T, K>) -> Word
         requires own { IsOf mbox.now self.old.board self.old.key }
         requires theirs { IsOf mbox.now note.board note.key }
-        ensures after { self.new ≡ sees (record self.old { trail = both self.old.trail (met start note.changes) }) result }
-        ensures word { IsWord result }
-        ensures newer { IsNewer self.old.trail result }
+        ensures after { self.new ≡ sees (record self.old { trail = both self.old.trail (met start note.changes note.closed) }) result }
+        ensures answer { IsAnswer (record self.old { trail = both self.old.trail (met start note.changes note.closed) }) result }
     {
         mbox.table
             .shared
@@ -141,7 +148,7 @@ impl<T: Mail<K>, K> Taker<T, K> {
         requires own { IsOf mbox.now self.board self.key }
         requires fewer { (0 < parts) × (parts < self.parts) }
         ensures first { result.0 ≡ record self { parts = self.parts - parts } }
-        ensures second { result.1 ≡ record self { parts = parts; got = [] } }
+        ensures second { result.1 ≡ record self { parts = parts; settings = 0; got = [] } }
     {
         mbox.table
             .shared
@@ -154,7 +161,7 @@ impl<T: Mail<K>, K> Taker<T, K> {
     pub fn join(mut self, mbox: &Mbox<T, K>, other: Taker<T, K>) -> Taker<T, K>
         requires own { IsOf mbox.now self.board self.key }
         requires theirs { IsOf mbox.now other.board other.key }
-        ensures joined { result ≡ record self { parts = self.parts + other.parts; trail = both self.trail other.trail; got = self.got ++ other.got } }
+        ensures joined { result ≡ record self { parts = self.parts + other.parts; settings = self.settings + other.settings; trail = both self.trail other.trail; got = self.got ++ other.got } }
         ensures once { (t : ℕ) → times t (self.got ++ other.got) ≤ 1 }
     {
         let Taker { seat: theirs } = other;
@@ -166,7 +173,7 @@ impl<T: Mail<K>, K> Taker<T, K> {
     // What a Poster takes back.
     pub(crate) fn into_seat(self) -> Place<T, K>
         ensures seat { (result.table_id ≡ self.board) × (result.me.1 ≡ []) }
-        ensures view { (result.me.0.key ≡ self.key) × (result.me.0.parts ≡ self.parts) × (result.me.0.trail.met ≡ self.trail) × (result.me.0.got ≡ self.got) × (result.me.0.back ≡ []) }
+        ensures view { (result.me.0.key ≡ self.key) × (result.me.0.parts ≡ self.parts) × (result.me.0.settings ≡ self.settings) × (result.me.0.trail.met ≡ self.trail) × (result.me.0.got ≡ self.got) × (result.me.0.back ≡ []) }
     {
         let Taker { seat } = self;
         seat

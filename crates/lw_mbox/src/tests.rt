@@ -1,4 +1,4 @@
-ghost use Rattle.std.specs.Prelude.{◌≡◌, false};
+ghost use Rattle.std.specs.Prelude.{◌≡◌, ◌<◌, false};
 ghost use Rattle.lw_base.specs.declared.event_word.Flag.TheVariants.{Closed};
 ghost use Rattle.lw_mbox.specs.Changes.{is_on};
 ghost use Rattle.lw_mbox.specs.Tokens.{IsOf};
@@ -18,17 +18,35 @@ impl Mail<u8> for u32 {
     ghost fits = { λ _ _. Unit {0} };
 }
 
-fn post(
-    poster: &mut Poster<u32, u8>,
-    mbox: &Mbox<u32, u8>,
-    item: u32,
-) -> Result<u32, (PostFault, u32)>
+// Posts the item where there is a place for it.
+fn post(poster: &mut Poster<u32, u8>, mbox: &Mbox<u32, u8>, item: u32) -> Result<u32, PostFault>
+    requires places { 0 < mbox.now.capacity }
     requires own { IsOf mbox.now poster.old.board poster.old.key }
     requires unclosed { is_on Closed poster.old.changes ≡ false }
     ensures own { IsOf mbox.now poster.new.board poster.new.key }
     ensures unclosed { is_on Closed poster.new.changes ≡ false }
 {
-    poster.try_post(mbox, item)
+    poster.has_place(mbox, 0)?;
+    Ok(poster.post(mbox, item))
+}
+
+// Posts both items, where there are places for both.
+fn post_both(
+    poster: &mut Poster<u32, u8>,
+    mbox: &Mbox<u32, u8>,
+    first: u32,
+    second: u32,
+) -> Result<(u32, u32), PostFault>
+    requires own { IsOf mbox.now poster.old.board poster.old.key }
+    requires places { 1 < mbox.now.capacity }
+    requires unclosed { is_on Closed poster.old.changes ≡ false }
+    ensures own { IsOf mbox.now poster.new.board poster.new.key }
+    ensures unclosed { is_on Closed poster.new.changes ≡ false }
+{
+    poster.has_place(mbox, 0)?;
+    poster.has_place(mbox, 1)?;
+    let before = poster.post(mbox, first);
+    Ok((before, poster.post(mbox, second)))
 }
 
 fn fetch(taker: &mut Taker<u32, u8>, mbox: &Mbox<u32, u8>) -> Fetch<u32>
@@ -53,38 +71,24 @@ fn closed_at(answer: Fetch<u32>) -> Option<(u32, u32)> {
 }
 
 #[test]
-fn two_places(rt: HostRuntime) -> Result<(), Fail> {
+fn a_mailbox_of_two(rt: HostRuntime) -> Result<(), Fail> {
     let (mbox, mut poster, mut taker): (Mbox<u32, u8>, _, _) = make(rt.alloc(), 2, &0u8)?;
-    assert!(rt; post(&mut poster, &mbox, 10) == Ok(0));
-    assert!(rt; post(&mut poster, &mbox, 11) == Ok(1));
-    assert!(rt; post(&mut poster, &mbox, 12) == Err((PostFault::Full, 12)));
+    assert_eq!(rt; post_both(&mut poster, &mbox, 10, 11), Ok((0, 1)));
+    assert_eq!(rt; post(&mut poster, &mbox, 12), Err(PostFault::Full));
     assert!(rt; matches!(fetch(&mut taker, &mbox), Fetch::Item(0, 10)));
-    assert!(rt; post(&mut poster, &mbox, 12) == Ok(2));
+    assert_eq!(rt; poster.has_place(&mbox, 1), Err(PostFault::Full));
+    assert_eq!(rt; post(&mut poster, &mbox, 12), Ok(2));
     poster.set(&mbox, Flag::Closed);
-    assert!(rt; closed_at(fetch(&mut taker, &mbox)) == Some((3, 1)));
+    assert_eq!(rt; closed_at(fetch(&mut taker, &mbox)), Some((3, 1)));
     assert!(rt; matches!(drain(&mut taker, &mbox), Drain::Item(1, 11)));
     assert!(rt; matches!(drain(&mut taker, &mbox), Drain::Item(2, 12)));
     assert!(rt; matches!(drain(&mut taker, &mbox), Drain::Done(_)));
     Ok(())
 }
 
-#[test]
-fn flags_are_met(rt: HostRuntime) -> Result<(), Fail> {
-    let (mbox, mut poster, mut taker): (Mbox<u32, u8>, _, _) = make(rt.alloc(), 1, &0u8)?;
-    poster.set(&mbox, Flag::Listen);
-    assert!(rt; matches!(taker.try_fetch(&mbox, Side::Reads), Fetch::Other(_)));
-    poster.clear(&mbox, Flag::Listen);
-    poster.set(&mbox, Flag::Writable);
-    taker.rest(&mbox, true);
-    let note = poster.note(&mbox);
-    assert_eq!(rt; taker.meet(&mbox, note).flags, 3);
-    taker.rest(&mbox, false);
-    assert_eq!(rt; taker.word(&mbox).flags, 1);
-    Ok(())
-}
-
 // Posts the item as soon as there is room.
 fn post_soon(poster: &mut Poster<u32, u8>, mbox: &Mbox<u32, u8>, item: u32) -> bool
+    requires places { 0 < mbox.now.capacity }
     requires own { IsOf mbox.now poster.old.board poster.old.key }
     requires unclosed { is_on Closed poster.old.changes ≡ false }
     ensures own { IsOf mbox.now poster.new.board poster.new.key }
@@ -101,6 +105,7 @@ fn post_soon(poster: &mut Poster<u32, u8>, mbox: &Mbox<u32, u8>, item: u32) -> b
 
 // Posts each number below ITEMS, and closes the mailbox.
 fn post_all(mut poster: Poster<u32, u8>, mbox: &Mbox<u32, u8>) -> Poster<u32, u8>
+    requires places { 0 < mbox.now.capacity }
     requires own { IsOf mbox.now poster.board poster.key }
     requires unclosed { is_on Closed poster.changes ≡ false }
     ensures { IsOf mbox.now result.board result.key }

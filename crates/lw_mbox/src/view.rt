@@ -48,6 +48,8 @@ pub struct View<T, K> {
     pub parts: u64,
     /// How many parts it is about to hand on.
     pub asked: u64,
+    /// How often it set REST.
+    pub settings: u64,
     pub trail: Steps,
     pub got: LinkedList<Got<T>>,
     /// The ticket whose slot a Taker has.
