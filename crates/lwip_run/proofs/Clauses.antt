@@ -1,6 +1,6 @@
 -- What the clauses of the top call say, from what comes of the words.
 use Rattle.std.proofs.Common.{ℕ, ◌≡◌, ◌≢◌, ◌≤◌, ◌∙◌, ◌⊎◌, inl, inr, ⊎_elim, List, [], length, Option, Some, Result, Ok, Err, ap, subst, sym, refl, arith}
-use Rattle.lw_base.specs.Outside.{Rose, Adds}
+use Rattle.lw_outside.specs.Outside.{Rose, Adds}
 use Rattle.lw_script.specs.declared.parts.Script.{Script}
 use Rattle.lw_script.specs.Grammar.{SpellsScript, FailsAt}
 use Rattle.lw_script.proofs.GrammarLaws.{exclusive}

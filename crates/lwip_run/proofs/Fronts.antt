@@ -1,7 +1,7 @@
 -- Fronts of texts that are written piece by piece.
 use Rattle.std.proofs.Common.{ℕ, List, ◌++◌, Option, Result, Ok, Err, OnErr, sym, ap, ◌∙◌, append_assoc}
-use Rattle.lw_base.specs.Outside.{Adds, AddsFront}
-use Rattle.lw_base.proofs.OutsideLaws.{Adds-then}
+use Rattle.lw_outside.specs.Outside.{Adds, AddsFront}
+use Rattle.lw_outside.proofs.OutsideLaws.{Adds-then}
 
 -- a front of the first piece is a front of both
 pub first_front : (before now : Option (List ℕ)) (first second : List ℕ) → AddsFront before now first → AddsFront before now (first ++ second)

@@ -1,6 +1,6 @@
 use Rattle.std.proofs.Common.{◌≡◌, ℕ, ◌≤◌, List, ◌++◌, take, drop, Option, sym, ap, ◌∙◌, append_assoc, take-append-drop, arith}
-use Rattle.lw_base.specs.Outside.{Adds}
-use Rattle.lw_base.proofs.OutsideLaws.{Adds-then}
+use Rattle.lw_outside.specs.Outside.{Adds}
+use Rattle.lw_outside.proofs.OutsideLaws.{Adds-then}
 
 -- all before the rest was written, and the count of faults didn't fall
 pub record WrittenSoFar (before now : Option (List ℕ)) (octets rest : List ℕ) (faults_before faults_now : ℕ) : Type 0 where

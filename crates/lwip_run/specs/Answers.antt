@@ -1,6 +1,6 @@
 -- The statuses of the program and their texts.
 use Rattle.std.specs.Prelude.{ℕ, ◌≡◌, ◌++◌, ◌⊎◌, List, [], ◌∷◌, Option, codes, decimal}
-use Rattle.lw_base.specs.Outside.{Rose, Adds, AddsFront}
+use Rattle.lw_outside.specs.Outside.{Rose, Adds, AddsFront}
 use Rattle.lwip_run.specs.declared.refusal.Refusal.{Refusal}
 use Rattle.lwip_run.specs.declared.refusal.Refusal.TheVariants.{Usage, BadScript, BadCapture, ReadFault, WriteFault, TooLong, NoMemory}
 

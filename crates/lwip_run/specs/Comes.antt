@@ -1,6 +1,6 @@
 -- What comes of a form, and of any words.
 use Rattle.std.specs.Prelude.{ℕ, ◌≡◌, ◌==◌, ◌≤◌, ◌⊎◌, List, [], length, Option, Some, Result, Ok, Err, codes, if◌then◌else◌}
-use Rattle.lw_base.specs.Outside.{Rose, Adds, AddsFront}
+use Rattle.lw_outside.specs.Outside.{Rose, Adds, AddsFront}
 use Rattle.lw_script.specs.declared.parts.Script.{Script}
 use Rattle.lw_script.specs.Grammar.{SpellsScript}
 use Rattle.lw_pcap.specs.Capture.{SpellsCapture}

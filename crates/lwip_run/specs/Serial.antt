@@ -1,6 +1,6 @@
 -- What the form `serial SCRIPT CAPTURE` does with its files.
 use Rattle.std.specs.Prelude.{ℕ, ◌≡◌, ◌<◌, ◌≤◌, ◌⊎◌, List, length, Option, IfSome}
-use Rattle.lw_base.specs.Outside.{Rose}
+use Rattle.lw_outside.specs.Outside.{Rose}
 use Rattle.lw_script.specs.declared.parts.Script.{Script}
 use Rattle.lw_script.specs.Grammar.{SpellsScript, FailsAt}
 use Rattle.lw_pcap.specs.declared.fault.PcapFault.{PcapFault}

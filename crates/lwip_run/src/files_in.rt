@@ -1,10 +1,11 @@
 ghost use Rattle.std.specs.Prelude.{◌≤◌, MatchResult, length};
-ghost use Rattle.lw_base.specs.Outside.{SameNames};
+ghost use Rattle.lw_outside.specs.Outside.{SameNames};
 ghost use Rattle.lwip_run.specs.Serial.{CaptureRefused, FileRefused, IsRead, ReadsCapture, ReadsScript, ScriptRefused, capture_limit, script_limit};
 
 use crate::inputs::{InputFault, read_whole};
 use crate::refusal::Refusal;
-use lw_base::{Files, FrameList};
+use lw_base::FrameList;
+use lw_outside::Files;
 use lw_pcap::{PcapFault, read_capture};
 use lw_script::{Script, ScriptFault, read_script};
 use std::alloc::Global;

@@ -1,7 +1,7 @@
 ghost use Rattle.std.specs.Prelude.{◌≡◌, ◌<◌, ◌≤◌, length, IfOk, IfSome, Err, vec_len};
-ghost use Rattle.lw_base.specs.Outside.{Rose, SameNames};
+ghost use Rattle.lw_outside.specs.Outside.{Rose, SameNames};
 
-use lw_base::{Failed, Files};
+use lw_outside::{Failed, Files};
 use std::alloc::Global;
 
 /// Why a file wasn't read: a call to the files failed, the file has more octets than its limit, or
@@ -59,7 +59,7 @@ pub fn read_whole<F: Files>(
 #[cfg(test)]
 mod tests {
     use super::*;
-    use lw_base::{MemFiles, NamedFile};
+    use lw_outside::{MemFiles, NamedFile};
 
     // A file of 10,000 octets, which takes three reads and one that finds the end, read with the
     // limit, where the call of this number fails; how many octets were read.

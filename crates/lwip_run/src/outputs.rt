@@ -1,7 +1,7 @@
 ghost use Rattle.std.specs.Prelude.{OnErr, OnOk};
-ghost use Rattle.lw_base.specs.Outside.{Adds, AddsFront, HasCause};
+ghost use Rattle.lw_outside.specs.Outside.{Adds, AddsFront, HasCause};
 
-use lw_base::{Failed, Sink};
+use lw_outside::{Failed, Sink};
 
 /// Writes all octets, by as many calls of the sink as it takes. Where a call fails, what the earlier
 /// calls took stays written.
@@ -21,7 +21,7 @@ pub fn write_whole<K: Sink>(sink: &mut K, octets: &[u8]) -> Result<(), Failed>
 #[cfg(test)]
 mod tests {
     use super::*;
-    use lw_base::MemSink;
+    use lw_outside::MemSink;
     use std::test::Fail;
 
     #[test]

@@ -1,5 +1,5 @@
 ghost use Rattle.std.specs.Prelude.{◌≡◌, ◌≢◌, ◌↔◌, ◌≤◌, ◌⊎◌, ◌++◌, ℕ, List, [], ◌∷◌, map, string_bytes, MatchOption, MatchResult, Some, codes, decimal};
-ghost use Rattle.lw_base.specs.Outside.{Adds, Rose};
+ghost use Rattle.lw_outside.specs.Outside.{Adds, Rose};
 ghost use Rattle.lwip_run.specs.Answers.{IsNoForm, Says, serial_words};
 ghost use Rattle.lwip_run.specs.Serial.{CaptureFailsAt, IsLonger, IsSerialText, IsSomeScript, ScriptFails, SerialRefused, capture_limit, script_limit};
 ghost use Rattle.lwip_run.specs.Comes.{HoldsCapture, HoldsScript, IsStatus, PlainComes, SerialComes, WrotePart, code_of, said_of, text_of_status};
@@ -9,7 +9,7 @@ use crate::files_in::{capture_in, script_in};
 use crate::outputs::write_whole;
 use crate::refusal::Refusal;
 use crate::texts::serial_text;
-use lw_base::{Files, Sink};
+use lw_outside::{Files, Sink};
 use std::alloc::Global;
 
 /// Does what the words say, which are those behind the program's name: `serial SCRIPT CAPTURE` reads

@@ -1,10 +1,10 @@
 ghost use Rattle.std.specs.Prelude.{◌≡◌, ◌++◌, OnErr, OnOk, decimal, codes};
-ghost use Rattle.lw_base.specs.Outside.{Adds, AddsFront, HasCause};
+ghost use Rattle.lw_outside.specs.Outside.{Adds, AddsFront, HasCause};
 ghost use Rattle.lwip_run.specs.Answers.{Says, status_of, text_of};
 
 use crate::outputs::write_whole;
 use itoa::Buffer;
-use lw_base::{Failed, Sink};
+use lw_outside::{Failed, Sink};
 
 /// Why a form was not done.
 #[derive(Clone, Copy, Debug, PartialEq, Eq)]

@@ -1,6 +1,6 @@
 ghost use Rattle.std.specs.Prelude.{None};
 
-use lw_base::{Failed, MemSink, Sink};
+use lw_outside::{Failed, MemSink, Sink};
 use std::alloc::{AllocError, Global};
 
 // Octets that a narrow sink takes at a time.

@@ -1,5 +1,5 @@
 use Rattle.std.proofs.Common.{ℕ, ◌≡◌, ◌∙◌, ◌++◌, List, subst, decimal, codes}
-use Rattle.lw_base.specs.Outside.{Adds, AddsFront}
+use Rattle.lw_outside.specs.Outside.{Adds, AddsFront}
 use Rattle.lwip_run.proofs.Fronts.{first_front, on_error, second_front}
 use Rattle.lwip_run.proofs.refusal.write_numbered.Goals as goal
 

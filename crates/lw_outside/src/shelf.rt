@@ -1,7 +1,7 @@
 ghost use Rattle.std.specs.Prelude.{◌≡◌, ◌≢◌, ℕ, ◌+◌, ◌^◌, ◌<◌, List, Some, None, [], ◌++◌, ◌≤◌, length, take, drop, min, vec_len, string_bytes, IfOk, IfSome};
-ghost use Rattle.lw_base.specs.Shelf.{left_at, octets_at, place_of};
+ghost use Rattle.lw_outside.specs.Shelf.{left_at, octets_at, place_of};
 
-use crate::Octets;
+use lw_base::Octets;
 use std::alloc::{AllocError, Global};
 
 /// A file in memory: its name and its octets.

@@ -1,5 +1,5 @@
 use Rattle.std.proofs.Common.{ℕ, ◌≤◌, List, [], ◌++◌, Option, None, Some, sym, ap, ◌∙◌, append_assoc, append-nil, arith}
-use Rattle.lw_base.specs.Outside.{Adds, Rose, SameNames}
+use Rattle.lw_outside.specs.Outside.{Adds, Rose, SameNames}
 
 -- nothing was added where nothing was done
 pub Adds-nothing : (now : Option (List ℕ)) → Adds now now []

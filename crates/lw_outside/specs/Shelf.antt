@@ -1,5 +1,5 @@
 use Rattle.std.specs.Prelude.{ℕ, List, [], drop, Option, option_map, unwrap_or, position, slice_get, slice_index, string_bytes, bytes_eq}
-use Rattle.lw_base.specs.declared.shelf.NamedFile.{NamedFile}
+use Rattle.lw_outside.specs.declared.shelf.NamedFile.{NamedFile}
 
 -- the place of the first file that has this name
 abbrev pub place_of : List NamedFile → List ℕ → Option ℕ

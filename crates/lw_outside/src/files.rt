@@ -1,7 +1,7 @@
 ghost use Rattle.std.specs.Prelude.{◌≡◌, ℕ, List, Option, IfOk};
 ghost use Rattle.std.specs.Io.{ReadsAtMost};
 ghost use Rattle.std.specs.Io.KnownBytes.{ReadConsumes};
-ghost use Rattle.lw_base.specs.Outside.{HasCause, KeepsNumbers, SameNames};
+ghost use Rattle.lw_outside.specs.Outside.{HasCause, KeepsNumbers, SameNames};
 
 /// A call to the outside that failed; the count of faults of what was called has the cause.
 #[derive(Clone, Copy, Debug, PartialEq, Eq)]

@@ -1,9 +1,10 @@
 ghost use Rattle.std.specs.Prelude.{◌≡◌, ◌+◌, ◌-◌, ◌^◌, ◌<◌, ◌≤◌, ◌↔◌, ℕ, [], Some, None, Contains, IsErr, IfOk, if◌then◌else◌, min, option_copied, vec_len};
-ghost use Rattle.lw_base.specs.Shelf.{held_by, left_at};
-ghost use Rattle.lw_base.specs.Outside.{HasCause};
+ghost use Rattle.lw_outside.specs.Shelf.{held_by, left_at};
+ghost use Rattle.lw_outside.specs.Outside.{HasCause};
 
 use crate::shelf::Shelf;
-use crate::{Failed, Files, NamedFile, NoMemory, Sink};
+use crate::{Failed, Files, NamedFile, Sink};
+use lw_base::NoMemory;
 use std::alloc::Global;
 
 /// Files in memory, for tests: they tell their octets, and fail at the calls whose numbers they were

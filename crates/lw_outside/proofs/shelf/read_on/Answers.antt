@@ -1,6 +1,6 @@
 use Rattle.std.proofs.Common.{◌≡◌, ℕ, ◌+◌, List, ◌++◌, length, take, drop, min, sym, ap, ◌∙◌, take-append-drop}
 use Rattle.std.proofs.lemmas.List.{drop-drop, drop_min}
-use Rattle.lw_base.proofs.shelf.read_on.Goals as goal
+use Rattle.lw_outside.proofs.shelf.read_on.Goals as goal
 
 -- what is left is what was copied and what is left behind it
 moved : (octets rest copied : List ℕ) (read start count : ℕ) → start ≡ min read (length octets) → rest ≡ drop start octets → copied ≡ take count rest

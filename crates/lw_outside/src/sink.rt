@@ -1,5 +1,5 @@
 ghost use Rattle.std.specs.Prelude.{ℕ, ◌<◌, ◌≤◌, List, Option, length, IfOk};
-ghost use Rattle.lw_base.specs.Outside.{HasCause, WriteAdds};
+ghost use Rattle.lw_outside.specs.Outside.{HasCause, WriteAdds};
 
 use crate::Failed;
 

@@ -1,8 +1,9 @@
 ghost use Rattle.std.specs.Prelude.{◌≡◌, ◌^◌, ◌<◌, ℕ, List, [], Some, None, IfOk, if◌then◌else◌, option_copied, unwrap_or, vec_len};
-ghost use Rattle.lw_base.specs.Shelf.{held_by, left_at};
+ghost use Rattle.lw_outside.specs.Shelf.{held_by, left_at};
 
 use crate::shelf::Shelf;
-use crate::{Failed, Files, NamedFile, NoMemory, Sink};
+use crate::{Failed, Files, NamedFile, Sink};
+use lw_base::NoMemory;
 use std::alloc::Global;
 
 /// Files in memory that never fail: a name that isn't there is an empty file.
