@@ -1,1 +1,2 @@
-pub mod OutsideLaws
+mod Walks
+mod Ties

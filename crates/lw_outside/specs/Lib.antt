@@ -1,2 +1,6 @@
-pub mod Outside
+pub mod Faults
+pub mod Files
+pub mod Sinks
+pub mod Steps
 pub mod Shelf
+pub mod OnShelf

@@ -1,8 +1,9 @@
-ghost use Rattle.std.specs.Prelude.{◌≡◌, ◌+◌, ◌-◌, ◌^◌, ◌<◌, ◌≤◌, ◌↔◌, ℕ, [], Some, None, Contains, IsErr, IfOk, if◌then◌else◌, min, option_copied, vec_len};
-ghost use Rattle.lw_outside.specs.Shelf.{held_by, left_at};
-ghost use Rattle.lw_outside.specs.Outside.{HasCause};
+ghost use Rattle.std.specs.Prelude.{◌≡◌, ◌+◌, ◌-◌, ◌^◌, ◌<◌, ◌≤◌, ◌↔◌, ℕ, [], Some, None, Contains, IsErr, IsTrue, IfOk, if◌then◌else◌, min, option_copied, vec_len};
+ghost use Rattle.lw_outside.specs.Shelf.{held_by};
+ghost use Rattle.lw_outside.specs.Faults.{HasCause};
 
 use crate::shelf::Shelf;
+use crate::sink_log::{Front, SinkLog};
 use crate::{Failed, Files, NamedFile, Sink};
 use lw_base::NoMemory;
 use std::alloc::Global;
@@ -24,8 +25,9 @@ impl MemFiles {
         failing: Vec<u64>,
     ) -> Result<MemFiles, NoMemory>
         requires { vec_len files < 2 ^ 32 }
-        ensures holds { IfOk result (λ f. ⟦<MemFiles as Files>⟧.holds f ≡ held_by files.items) }
-        ensures faults { IfOk result (λ f. ⟦<MemFiles as Files>⟧.faults f ≡ 0) }
+        ensures holds { IfOk result (λ f. (⟦<MemFiles as Files>⟧.seen f).holds ≡ held_by files.items) }
+        ensures sought { IfOk result (λ f. (⟦<MemFiles as Files>⟧.seen f).sought ≡ []) }
+        ensures faults { IfOk result (λ f. (⟦<MemFiles as Files>⟧.seen f).faults ≡ 0) }
     {
         let shelf = Shelf::new(alloc, files)?;
         Ok(MemFiles {
@@ -36,57 +38,78 @@ impl MemFiles {
 }
 
 impl Files for MemFiles {
+    ghost use Rattle.lw_outside.specs.OnShelf.{told_by};
+
     ghost asked = { λ _. Unit {0} };
 
-    ghost holds = { λ f. held_by f.shelf.files.items };
+    ghost seen = { λ f. record { holds = held_by f.shelf.files.items; sought = f.shelf.log.sought; faults = f.faults.count } };
 
-    ghost given = { λ _ _. Unit {0} };
-
-    ghost left = { λ f n. Some (left_at f.shelf.files.items f.shelf.read.items n) };
-
-    ghost faults = { λ f. f.faults.count };
+    ghost tells = { λ f. told_by f.shelf.files.items f.shelf.log.sought f.shelf.told };
 
     fn find(&mut self, name: &str) -> Result<u32, Failed> {
-        self.faults.strike()?;
-        match self.shelf.find(name) {
-            Some(number) => Ok(number),
-            None => Err(self.faults.fault()),
+        match self.faults.strike() {
+            Ok(()) => match self.shelf.place(name) {
+                Some(number) => {
+                    self.shelf.found(name, number);
+                    Ok(number)
+                }
+                None => {
+                    let failed = self.faults.fault();
+                    self.shelf.missed(name, failed);
+                    Err(failed)
+                }
+            },
+            Err(failed) => {
+                self.shelf.missed(name, failed);
+                Err(failed)
+            }
         }
     }
 
     fn read(&mut self, number: u32, buf: &mut [u8]) -> Result<usize, Failed> {
-        self.faults.strike()?;
-        Ok(self.shelf.read(number, buf))
+        match self.faults.strike() {
+            Ok(()) => Ok(self.shelf.read(number, buf)),
+            Err(failed) => {
+                self.shelf.not_read(number, buf, failed);
+                Err(failed)
+            }
+        }
     }
 }
 
-/// A sink in memory, for tests: it tells its octets, and fails at the calls whose numbers it was
-/// given; the first `write` has the number 1. Where it finds no memory it goes on and tells no more.
+/// A sink in memory, for tests: it keeps the octets that it took, and fails at the calls whose numbers
+/// it was given; the first `write` has the number 1. Where it finds no memory it goes on and keeps no
+/// more.
 #[derive(Drop)]
 pub struct MemSink {
+    /// Whether all octets that it took are kept.
+    pub whole: bool,
     octets: Vec<u8>,
-    told: bool,
+    log: SinkLog,
     faults: Faults,
+    ghost kept: { IsTrue whole → octets.items ≡ log.took },
 }
 
 impl MemSink {
     /// An empty sink that fails at the calls of these numbers.
     pub fn new(alloc: Global, failing: Vec<u64>) -> MemSink
-        ensures written { ⟦<MemSink as Sink>⟧.written result ≡ Some [] }
-        ensures faults { ⟦<MemSink as Sink>⟧.faults result ≡ 0 }
+        ensures took { (⟦<MemSink as Sink>⟧.seen result).took ≡ [] }
+        ensures faults { (⟦<MemSink as Sink>⟧.seen result).faults ≡ 0 }
+        ensures whole { IsTrue result.whole }
     {
         MemSink {
+            whole: true,
             octets: Vec::new(alloc),
-            told: true,
+            log: SinkLog::new(),
             faults: Faults::new(failing),
         }
     }
 
-    /// The octets that were written, where they are told.
+    /// The octets that it took, where all are kept.
     pub fn octets(&self) -> Option<&[u8]>
-        ensures { option_copied result ≡ ⟦<MemSink as Sink>⟧.written self.now }
+        ensures { option_copied result ≡ (if self.now.whole then Some (⟦<MemSink as Sink>⟧.seen self.now).took else None) }
     {
-        if self.told {
+        if self.whole {
             Some(self.octets.as_slice())
         } else {
             None
@@ -95,16 +118,14 @@ impl MemSink {
 }
 
 impl Sink for MemSink {
-    ghost written = { λ s. if s.told then Some s.octets.items else None };
-
-    ghost faults = { λ s. s.faults.count };
+    ghost seen = { λ s. record { took = s.log.took; faults = s.faults.count } };
 
     fn write(&mut self, piece: &[u8]) -> Result<usize, Failed> {
         self.faults.strike()?;
-        if self.octets.extend_from_slice(piece).is_err() {
-            self.told = false;
-        }
-        Ok(piece.len())
+        let count = piece.len();
+        self.whole = self.whole && self.octets.extend_from_slice(piece).is_ok();
+        self.log = self.log.then(&Front { piece, count });
+        Ok(count)
     }
 }
 
@@ -152,59 +173,5 @@ impl Faults {
     {
         self.count = self.count.saturating_add(1);
         Failed
-    }
-}
-
-#[cfg(test)]
-mod tests {
-    use super::*;
-    use std::test::Fail;
-
-    // Finds a file of five octets, and reads it by four calls.
-    #[test]
-    fn files_fail_at_the_given_call(rt: HostRuntime) -> Result<(), Fail> {
-        for failing in 1..=5u64 {
-            let first = NamedFile::new(rt.alloc(), "first", b"none of these")?;
-            let second = NamedFile::new(rt.alloc(), "second", b"abcde")?;
-            let files = vec![in rt.alloc(); first, second]?;
-            let mut files = MemFiles::new(rt.alloc(), files, vec![in rt.alloc(); failing]?)?;
-            let number = files.find("second");
-            assert_eq!(rt; number.is_err(), failing == 1, "call 1 of {failing}");
-            let number = number.unwrap_or(1);
-            let mut read = Vec::new(rt.alloc());
-            for call in 2..=5u64 {
-                let mut buf = [0; 2];
-                let count = files.read(number, &mut buf);
-                assert_eq!(rt; count.is_err(), failing == call, "call {call} of {failing}");
-                let (front, _) = buf.split_at(count.unwrap_or(0).min(2));
-                read.extend_from_slice(front)?;
-            }
-            assert_eq!(rt;
-                read.as_slice(),
-                b"abcde".as_slice(),
-                "all but call {failing}"
-            );
-        }
-        Ok(())
-    }
-
-    #[test]
-    fn a_name_that_is_not_there_is_a_fault(rt: HostRuntime) -> Result<(), Fail> {
-        let file = NamedFile::new(rt.alloc(), "there", b"a")?;
-        let files = vec![in rt.alloc(); file]?;
-        let mut files = MemFiles::new(rt.alloc(), files, vec![in rt.alloc()]?)?;
-        assert_eq!(rt; files.find("elsewhere"), Err(Failed));
-        assert_eq!(rt; files.find("there"), Ok(0));
-        Ok(())
-    }
-
-    #[test]
-    fn a_sink_fails_at_the_given_call(rt: HostRuntime) -> Result<(), Fail> {
-        let mut sink = MemSink::new(rt.alloc(), vec![in rt.alloc(); 2]?);
-        assert_eq!(rt; sink.write(b"one "), Ok(4));
-        assert_eq!(rt; sink.write(b"two "), Err(Failed));
-        assert_eq!(rt; sink.write(b"three"), Ok(5));
-        assert_eq!(rt; sink.octets().ok_or("not told")?, b"one three".as_slice());
-        Ok(())
     }
 }

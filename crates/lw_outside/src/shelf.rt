@@ -1,85 +1,85 @@
-ghost use Rattle.std.specs.Prelude.{◌≡◌, ◌≢◌, ℕ, ◌+◌, ◌^◌, ◌<◌, List, Some, None, [], ◌++◌, ◌≤◌, length, take, drop, min, vec_len, string_bytes, IfOk, IfSome};
-ghost use Rattle.lw_outside.specs.Shelf.{left_at, octets_at, place_of};
+ghost use Rattle.std.specs.Prelude.{◌≡◌, ◌≢◌, ℕ, ◌^◌, ◌<◌, List, Some, [], ◌∷◌, ◌++◌, ◌≤◌, length, take, drop, min, vec_len, slice_set, All, IfOk, IfSome, Ok, Err};
+ghost use Rattle.lw_outside.specs.Files.{FileSeen, IsReadOf, file_of, looked_for, read_more, with_file};
+ghost use Rattle.lw_outside.specs.Shelf.{Leaves, left_at, octets_at, octets_of, place_of};
 
-use lw_base::Octets;
+use crate::file_log::{FileLog, FileStep};
+use crate::{Failed, NamedFile};
 use std::alloc::{AllocError, Global};
 
-/// A file in memory: its name and its octets.
-#[derive(Drop)]
-pub struct NamedFile {
-    pub name: String,
-    pub octets: Octets,
-}
-
-impl NamedFile {
-    /// A file that holds a copy of these octets.
-    pub fn new(alloc: Global, name: &str, octets: &[u8]) -> Result<NamedFile, AllocError>
-        ensures name { IfOk result (λ f. string_bytes f.name ≡ name.now) }
-        ensures octets { IfOk result (λ f. f.octets ≡ octets.now) }
-    {
-        let name = String::from_str(alloc, name)?;
-        let octets = Octets::from_vec(Vec::from_slice(alloc, octets)?);
-        Ok(NamedFile { name, octets })
-    }
-}
-
-// Files in memory, with the number of octets of each that were read. A file's number is its place.
+// Files in memory, with the number of octets of each that were read, and what was seen of them. A
+// file's number is its place; at another number an empty file stands.
 #[derive(Drop)]
 pub struct Shelf {
     pub files: Vec<NamedFile>,
     pub read: Vec<usize>,
+    pub log: FileLog,
     ghost paired: { vec_len read ≡ vec_len files },
     ghost few: { vec_len files < 2 ^ 32 },
+    ghost told: { All (λ (f : FileSeen). IsReadOf (octets_of files.items f.name) f) log.sought },
+    ghost stands: { (n : ℕ) (f : FileSeen) → file_of n log.sought ≡ Some f
+        → Leaves (octets_of files.items f.name) (left_at files.items read.items n) f },
 }
 
 impl Shelf {
-    // Each file stands at its first octet.
+    // No file was looked for.
     pub fn new(alloc: Global, files: Vec<NamedFile>) -> Result<Shelf, AllocError>
         requires { vec_len files < 2 ^ 32 }
-        ensures { IfOk result (λ s. s.files.items ≡ files.items) }
+        ensures files { IfOk result (λ s. s.files.items ≡ files.items) }
+        ensures sought { IfOk result (λ s. s.log.sought ≡ []) }
     {
         let read = vec![in alloc; 0; files.len()]?;
-        Ok(Shelf { files, read })
+        Ok(Shelf {
+            files,
+            read,
+            log: FileLog::new(),
+        })
     }
 
-    // The number of a file, which is at its first octet from then on.
-    pub fn find(&mut self, name: &str) -> Option<u32>
-        ensures found { result ≡ place_of self.old.files.items name.now }
-        ensures begins { IfSome result (λ n. left_at self.new.files.items self.new.read.items n
-            ≡ octets_at self.old.files.items n) }
-        ensures others { (n : ℕ) → result ≢ Some n
-            → left_at self.new.files.items self.new.read.items n ≡ left_at self.old.files.items self.old.read.items n }
-        ensures files { self.new.files.items ≡ self.old.files.items }
+    // The number of the first file of this name.
+    pub fn place(&self, name: &str) -> Option<u32>
+        ensures { result ≡ place_of self.now.files.items name.now }
     {
         match place_in(self.files.as_slice(), name) {
-            Some(place) => {
-                self.read[place] = 0;
-                Some(place as u32)
-            }
+            Some(place) => Some(place as u32),
             None => None,
         }
     }
 
-    // Copies the next octets of a file; a number that has no file has none.
-    pub fn read(&mut self, number: u32, buf: &mut [u8]) -> usize
-        ensures bound { result ≤ length buf.new }
-        ensures octets { left_at self.old.files.items self.old.read.items number
-            ≡ take result buf.new ++ left_at self.new.files.items self.new.read.items number }
-        ensures end { result ≡ 0 → 0 < length buf.new
-            → left_at self.new.files.items self.new.read.items number ≡ [] }
-        ensures others { (n : ℕ) → n ≢ number
-            → left_at self.new.files.items self.new.read.items n ≡ left_at self.old.files.items self.old.read.items n }
+    // The file of this name has this number, and is at its first octet.
+    pub fn found(&mut self, name: &str, number: u32)
+        requires { octets_of self.old.files.items name.now ≡ octets_at self.old.files.items number }
+        ensures sought { self.new.log.sought ≡ looked_for name.now (Ok number) ∷ self.old.log.sought }
         ensures files { self.new.files.items ≡ self.old.files.items }
     {
-        let place = number as usize;
-        if place >= self.files.len() {
-            return 0;
-        }
-        read_on(
-            self.files[place].octets.as_slice(),
-            &mut self.read[place],
-            buf,
-        )
+        begin(&mut self.read, number);
+        self.log = self.log.then(&FileStep::Found(name, Ok(number)));
+    }
+
+    // The file of this name wasn't found.
+    pub fn missed(&mut self, name: &str, failed: Failed)
+        ensures sought { self.new.log.sought ≡ looked_for name.now (Err failed) ∷ self.old.log.sought }
+        ensures files { self.new.files.items ≡ self.old.files.items }
+    {
+        self.log = self.log.then(&FileStep::Found(name, Err(failed)));
+    }
+
+    // Copies the next octets of a file.
+    pub fn read(&mut self, number: u32, buf: &mut [u8]) -> usize
+        ensures bound { result ≤ length buf.new }
+        ensures sought { self.new.log.sought ≡ with_file number (read_more (Ok result) buf.new) self.old.log.sought }
+        ensures files { self.new.files.items ≡ self.old.files.items }
+    {
+        let count = read_at(&self.files, &mut self.read, number, buf);
+        self.log = self.log.then(&FileStep::Gave(number, buf, Ok(count)));
+        count
+    }
+
+    // A read failed.
+    pub fn not_read(&mut self, number: u32, buf: &[u8], failed: Failed)
+        ensures sought { self.new.log.sought ≡ with_file number (read_more (Err failed) buf.now) self.old.log.sought }
+        ensures files { self.new.files.items ≡ self.old.files.items }
+    {
+        self.log = self.log.then(&FileStep::Gave(number, buf, Err(failed)));
     }
 }
 
@@ -89,6 +89,35 @@ fn place_in(files: &[NamedFile], name: &str) -> Option<usize>
     ensures within { IfSome result (λ n. n < length files.now) }
 {
     files.iter().position(|f| f.name.as_str() == name)
+}
+
+// The file of this number is at its first octet.
+fn begin(read: &mut Vec<usize>, number: u32)
+    ensures begun { read.new.items ≡ slice_set read.old.items number 0 }
+    ensures paired { vec_len read.new ≡ vec_len read.old }
+{
+    let number = number as usize;
+    if number < read.len() {
+        read[number] = 0;
+    }
+}
+
+// Copies the next octets of a file; a number that has no file has none.
+fn read_at(files: &[NamedFile], read: &mut Vec<usize>, number: u32, buf: &mut [u8]) -> usize
+    requires { vec_len read.old ≡ length files.now }
+    ensures bound { result ≤ length buf.new }
+    ensures octets { left_at files.now read.old.items number
+        ≡ take result buf.new ++ left_at files.now read.new.items number }
+    ensures end { result ≡ 0 → 0 < length buf.new → left_at files.now read.new.items number ≡ [] }
+    ensures others { (n : ℕ) → n ≢ number
+        → left_at files.now read.new.items n ≡ left_at files.now read.old.items n }
+    ensures paired { vec_len read.new ≡ vec_len read.old }
+{
+    let place = number as usize;
+    if place >= files.len() {
+        return 0;
+    }
+    read_on(files[place].octets.as_slice(), &mut read[place], buf)
 }
 
 // Copies the next octets of a file of which `read` octets were read, and moves `read` behind them.

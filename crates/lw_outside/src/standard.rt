@@ -1,62 +1,78 @@
-ghost use Rattle.std.specs.Prelude.{◌≡◌, ◌<◌, None};
+ghost use Rattle.std.specs.Prelude.{◌≡◌, ◌≤◌, None, []};
 ghost use Rattle.std.specs.Io.{ReadsAtMost};
+ghost use Rattle.lw_outside.specs.Faults.{Rose};
 
+use crate::file_log::{FileLog, FileStep};
+use crate::sink_log::{Front, SinkLog};
 use crate::{Failed, Files, Sink};
 use std::fs::{self, OpenFile};
 use std::io::{Read, Write};
 use std::rt::{self, Stderr, Stdout};
 
 /// The files of the operating system. Three places for files that were found are taken in turn; a
-/// fourth file takes the first place again, and what stood there is given up. Of what a file holds
-/// nothing is told.
+/// fourth file takes the first place again, and what stood there is given up. What reads give is told,
+/// and not what a file holds.
 #[derive(Drop)]
 pub struct StdFiles<'a, R: rt::Files> {
     runtime: &'a R,
     places: Places<R::File>,
+    log: FileLog,
     faults: u64,
 }
 
 impl<'a, R: rt::Files> StdFiles<'a, R> {
-    /// No file is found yet.
+    ghost use Rattle.lw_outside.specs.Steps.{sought_after};
+
+    /// No file was looked for.
     pub fn new(runtime: &'a R) -> StdFiles<'a, R>
-        ensures { ⟦<StdFiles<'a, R> as Files>⟧.faults result ≡ 0 }
+        ensures sought { (⟦<StdFiles<'a, R> as Files>⟧.seen result).sought ≡ [] }
+        ensures faults { (⟦<StdFiles<'a, R> as Files>⟧.seen result).faults ≡ 0 }
     {
         StdFiles {
             runtime,
             places: Places::new(),
+            log: FileLog::new(),
             faults: 0,
         }
+    }
+
+    // Counts a call that failed.
+    fn fault(&mut self, step: &FileStep<'_>) -> Failed
+        ensures sought { self.new.log.sought ≡ sought_after step.now self.old.log.sought }
+        ensures later { self.old.faults ≤ self.new.faults }
+        ensures rose { Rose self.old.faults self.new.faults }
+    {
+        self.log = self.log.then(step);
+        self.faults = self.faults.saturating_add(1);
+        Failed
     }
 }
 
 impl<R: rt::Files> Files for StdFiles<'_, R> {
     ghost asked = { λ _. Unit {0} };
 
-    ghost holds = { λ _ _. None };
+    ghost seen = { λ s. record { holds = λ _. None; sought = s.log.sought; faults = s.faults } };
 
-    ghost given = { λ _ n. n < 3 };
-
-    ghost left = { λ _ _. None };
-
-    ghost faults = { λ s. s.faults };
+    ghost tells = { λ _ _ _ _. tt };
 
     fn find(&mut self, name: &str) -> Result<u32, Failed> {
         match opened(self.runtime, name) {
-            Some(file) => Ok(self.places.keep(file)),
-            None => {
-                self.faults = self.faults.saturating_add(1);
-                Err(Failed)
+            Some(file) => {
+                let number = self.places.keep(file);
+                self.log = self.log.then(&FileStep::Found(name, Ok(number)));
+                Ok(number)
             }
+            None => Err(self.fault(&FileStep::Found(name, Err(Failed)))),
         }
     }
 
     fn read(&mut self, number: u32, buf: &mut [u8]) -> Result<usize, Failed> {
         match self.places.read(number, buf) {
-            Ok(count) => Ok(count),
-            Err(failed) => {
-                self.faults = self.faults.saturating_add(1);
-                Err(failed)
+            Ok(count) => {
+                self.log = self.log.then(&FileStep::Gave(number, buf, Ok(count)));
+                Ok(count)
             }
+            Err(failed) => Err(self.fault(&FileStep::Gave(number, buf, Err(failed)))),
         }
     }
 }
@@ -88,9 +104,7 @@ impl<F: Read + Drop> Places<F> {
     }
 
     // Puts a file into the next place, whose number it answers.
-    fn keep(&mut self, file: F) -> u32
-        ensures { result < 3 }
-    {
+    fn keep(&mut self, file: F) -> u32 {
         match self.next {
             Place::First => {
                 self.first = Some(file);
@@ -142,10 +156,11 @@ fn opened<R: rt::Files>(runtime: &R, name: &str) -> Option<R::File> {
     if about.is_dir() { None } else { Some(file) }
 }
 
-/// Standard output or standard error. Of what was written nothing is told.
-#[derive(Clone, Copy)]
+/// Standard output or standard error. What it took is told.
+#[derive(Drop)]
 pub struct StdSink {
     stream: Stream,
+    log: SinkLog,
     faults: u64,
 }
 
@@ -158,29 +173,31 @@ enum Stream {
 impl StdSink {
     /// What is written goes to standard output.
     pub fn output(output: Stdout) -> StdSink
-        ensures { ⟦<StdSink as Sink>⟧.faults result ≡ 0 }
+        ensures took { (⟦<StdSink as Sink>⟧.seen result).took ≡ [] }
+        ensures faults { (⟦<StdSink as Sink>⟧.seen result).faults ≡ 0 }
     {
         StdSink {
             stream: Stream::Output(output),
+            log: SinkLog::new(),
             faults: 0,
         }
     }
 
     /// What is written goes to standard error.
     pub fn error(error: Stderr) -> StdSink
-        ensures { ⟦<StdSink as Sink>⟧.faults result ≡ 0 }
+        ensures took { (⟦<StdSink as Sink>⟧.seen result).took ≡ [] }
+        ensures faults { (⟦<StdSink as Sink>⟧.seen result).faults ≡ 0 }
     {
         StdSink {
             stream: Stream::Error(error),
+            log: SinkLog::new(),
             faults: 0,
         }
     }
 }
 
 impl Sink for StdSink {
-    ghost written = { λ _. None };
-
-    ghost faults = { λ s. s.faults };
+    ghost seen = { λ s. record { took = s.log.took; faults = s.faults } };
 
     fn write(&mut self, piece: &[u8]) -> Result<usize, Failed> {
         let written = match &mut self.stream {
@@ -188,7 +205,10 @@ impl Sink for StdSink {
             Stream::Error(error) => error.write(piece),
         };
         match written {
-            Ok(count) if count > 0 || piece.is_empty() => Ok(count),
+            Ok(count) if count > 0 || piece.is_empty() => {
+                self.log = self.log.then(&Front { piece, count });
+                Ok(count)
+            }
             _ => {
                 self.faults = self.faults.saturating_add(1);
                 Err(Failed)

@@ -1,7 +1,8 @@
-ghost use Rattle.std.specs.Prelude.{◌≡◌, ◌^◌, ◌<◌, ℕ, List, [], Some, None, IfOk, if◌then◌else◌, option_copied, unwrap_or, vec_len};
-ghost use Rattle.lw_outside.specs.Shelf.{held_by, left_at};
+ghost use Rattle.std.specs.Prelude.{◌≡◌, ◌^◌, ◌<◌, ℕ, List, [], Some, None, IfOk, IsTrue, if◌then◌else◌, option_copied, vec_len};
+ghost use Rattle.lw_outside.specs.Shelf.{octets_of};
 
 use crate::shelf::Shelf;
+use crate::sink_log::{Front, SinkLog};
 use crate::{Failed, Files, NamedFile, Sink};
 use lw_base::NoMemory;
 use std::alloc::Global;
@@ -16,8 +17,9 @@ impl SureFiles {
     /// These files. Where two have one name, the first is found.
     pub fn new(alloc: Global, files: Vec<NamedFile>) -> Result<SureFiles, NoMemory>
         requires { vec_len files < 2 ^ 32 }
-        ensures { IfOk result (λ f. (name : List ℕ)
-            → ⟦<SureFiles as Files>⟧.holds f name ≡ Some (unwrap_or (held_by files.items name) [])) }
+        ensures holds { IfOk result (λ f. (name : List ℕ)
+            → (⟦<SureFiles as Files>⟧.seen f).holds name ≡ Some (octets_of files.items name)) }
+        ensures sought { IfOk result (λ f. (⟦<SureFiles as Files>⟧.seen f).sought ≡ []) }
     {
         let shelf = Shelf::new(alloc, files)?;
         Ok(SureFiles { shelf })
@@ -27,18 +29,20 @@ impl SureFiles {
 impl Files for SureFiles {
     ghost asked = { λ _. Unit {0} };
 
-    ghost holds = { λ f name. Some (unwrap_or (held_by f.shelf.files.items name) []) };
+    ghost seen = { λ f. record { holds = λ name. Some (octets_of f.shelf.files.items name); sought = f.shelf.log.sought; faults = 0 } };
 
-    ghost given = { λ _ _. Unit {0} };
-
-    ghost left = { λ f n. Some (left_at f.shelf.files.items f.shelf.read.items n) };
-
-    ghost faults = { λ _. 0 };
+    ghost tells = { λ f. f.shelf.told };
 
     fn find(&mut self, name: &str) -> Result<u32, Failed> {
-        match self.shelf.find(name) {
-            Some(number) => Ok(number),
-            None => Ok(u32::MAX),
+        match self.shelf.place(name) {
+            Some(number) => {
+                self.shelf.found(name, number);
+                Ok(number)
+            }
+            None => {
+                self.shelf.found(name, u32::MAX);
+                Ok(u32::MAX)
+            }
         }
     }
 
@@ -47,29 +51,34 @@ impl Files for SureFiles {
     }
 }
 
-/// A sink in memory that never fails. Where it finds no memory it goes on and tells no more.
+/// A sink in memory that never fails. Where it finds no memory it goes on and keeps no more.
 #[derive(Drop)]
 pub struct SureSink {
+    /// Whether all octets that it took are kept.
+    pub whole: bool,
     octets: Vec<u8>,
-    told: bool,
+    log: SinkLog,
+    ghost kept: { IsTrue whole → octets.items ≡ log.took },
 }
 
 impl SureSink {
     /// An empty sink.
     pub fn new(alloc: Global) -> SureSink
-        ensures { ⟦<SureSink as Sink>⟧.written result ≡ Some [] }
+        ensures took { (⟦<SureSink as Sink>⟧.seen result).took ≡ [] }
+        ensures whole { IsTrue result.whole }
     {
         SureSink {
+            whole: true,
             octets: Vec::new(alloc),
-            told: true,
+            log: SinkLog::new(),
         }
     }
 
-    /// The octets that were written, where they are told.
+    /// The octets that it took, where all are kept.
     pub fn octets(&self) -> Option<&[u8]>
-        ensures { option_copied result ≡ ⟦<SureSink as Sink>⟧.written self.now }
+        ensures { option_copied result ≡ (if self.now.whole then Some (⟦<SureSink as Sink>⟧.seen self.now).took else None) }
     {
-        if self.told {
+        if self.whole {
             Some(self.octets.as_slice())
         } else {
             None
@@ -78,37 +87,12 @@ impl SureSink {
 }
 
 impl Sink for SureSink {
-    ghost written = { λ s. if s.told then Some s.octets.items else None };
-
-    ghost faults = { λ _. 0 };
+    ghost seen = { λ s. record { took = s.log.took; faults = 0 } };
 
     fn write(&mut self, piece: &[u8]) -> Result<usize, Failed> {
-        if self.octets.extend_from_slice(piece).is_err() {
-            self.told = false;
-        }
-        Ok(piece.len())
-    }
-}
-
-#[cfg(test)]
-mod tests {
-    use super::*;
-    use std::test::Fail;
-
-    #[test]
-    fn a_name_that_is_not_there_is_empty(rt: HostRuntime) -> Result<(), Fail> {
-        let file = NamedFile::new(rt.alloc(), "there", b"abc")?;
-        let mut files = SureFiles::new(rt.alloc(), vec![in rt.alloc(); file]?)?;
-        let mut sink = SureSink::new(rt.alloc());
-        for (name, want) in [("there", 3), ("elsewhere", 0), ("there", 3)] {
-            let number = files.find(name).unwrap_or(0);
-            let mut buf = [0; 8];
-            let count = files.read(number, &mut buf).unwrap_or(8);
-            assert_eq!(rt; count, want, "{name}");
-            let (front, _) = buf.split_at(count.min(8));
-            assert_eq!(rt; sink.write(front), Ok(want));
-        }
-        assert_eq!(rt; sink.octets().ok_or("not told")?, b"abcabc".as_slice());
-        Ok(())
+        let count = piece.len();
+        self.whole = self.whole && self.octets.extend_from_slice(piece).is_ok();
+        self.log = self.log.then(&Front { piece, count });
+        Ok(count)
     }
 }
