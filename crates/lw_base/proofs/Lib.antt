@@ -1,1 +1,1 @@
-pub mod OutsideLaws
+mod Walks

@@ -1,4 +1,2 @@
 pub mod Errors
-pub mod Outside
-pub mod Shelf
 pub mod EventWord

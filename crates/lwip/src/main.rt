@@ -2,7 +2,7 @@
 //! standard output, what went wrong to standard error, and the status of the process says which.
 #![tactic(auto)]
 
-use lw_base::{StdFiles, StdSink};
+use lw_outside::{StdFiles, StdSink};
 use lwip_run::lwip_plain;
 use std::env;
 use std::io::{self, ErrorKind};

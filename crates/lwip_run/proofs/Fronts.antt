@@ -1,10 +1,10 @@
 -- Fronts of texts that are written piece by piece.
-use Rattle.std.proofs.Common.{ℕ, List, ◌++◌, Option, Result, Ok, Err, OnErr, sym, ap, ◌∙◌, append_assoc}
-use Rattle.lw_base.specs.Outside.{Adds, AddsFront}
-use Rattle.lw_base.proofs.OutsideLaws.{Adds-then}
+use Rattle.std.proofs.Common.{ℕ, List, ◌++◌, Result, Ok, Err, OnErr, sym, ap, ◌∙◌, append_assoc}
+use Rattle.lw_outside.specs.Sinks.{Adds, AddsFront, SinkSeen}
+use Rattle.lwip_run.proofs.OutputLemmas.{Adds-then}
 
 -- a front of the first piece is a front of both
-pub first_front : (before now : Option (List ℕ)) (first second : List ℕ) → AddsFront before now first → AddsFront before now (first ++ second)
+pub first_front : (before now : SinkSeen) (first second : List ℕ) → AddsFront before now first → AddsFront before now (first ++ second)
 first_front before now first second f =
     record {
       front = f.front;
@@ -14,7 +14,7 @@ first_front before now first second f =
     }
 
 -- the first piece and a front of the second are a front of both
-pub second_front : (before between now : Option (List ℕ)) (first second : List ℕ) → Adds before between first → AddsFront between now second → AddsFront before now (first ++ second)
+pub second_front : (before between now : SinkSeen) (first second : List ℕ) → Adds before between first → AddsFront between now second → AddsFront before now (first ++ second)
 second_front before between now first second a f =
     record {
       front = first ++ f.front;

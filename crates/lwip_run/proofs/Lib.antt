@@ -5,4 +5,5 @@ pub mod PlainCore
 pub mod OneThread
 pub mod Fronts
 pub mod Forms
+pub mod SerialFiles
 pub mod Clauses

@@ -1,8 +1,13 @@
 -- The statuses of the program and their texts.
-use Rattle.std.specs.Prelude.{ℕ, ◌≡◌, ◌++◌, ◌⊎◌, List, [], ◌∷◌, Option, codes, decimal}
-use Rattle.lw_base.specs.Outside.{Rose, Adds, AddsFront}
+use Rattle.std.specs.Prelude.{ℕ, ◌≡◌, ◌==◌, ◌≤◌, ◌++◌, ◌⊎◌, List, [], ◌∷◌, Result, Ok, Err, codes, decimal, if◌then◌else◌}
+use Rattle.lw_outside.specs.Faults.{Rose}
+use Rattle.lw_outside.specs.Sinks.{SinkSeen, Adds, AddsFront}
 use Rattle.lwip_run.specs.declared.refusal.Refusal.{Refusal}
 use Rattle.lwip_run.specs.declared.refusal.Refusal.TheVariants.{Usage, BadScript, BadCapture, ReadFault, WriteFault, TooLong, NoMemory}
+
+-- how a form ends: all was done, or it was refused
+abbrev pub Ending : Type 0
+Ending = Result (Unit {0}) Refusal
 
 -- the words `serial SCRIPT CAPTURE`
 abbrev pub serial_words : List ℕ → List ℕ → List (List ℕ)
@@ -32,7 +37,28 @@ text_of WriteFault = []
 text_of TooLong = codes "lwip: too long\n"
 text_of NoMemory = codes "lwip: no memory\n"
 
--- a text was written, or the sink failed on the way and a front of it was
-abbrev pub Says : ℕ → ℕ → Option (List ℕ) → Option (List ℕ) → List ℕ → Type 0
-Says faults_before faults_now before now text =
-    Adds before now text ⊎ (Rose faults_before faults_now × AddsFront before now text)
+-- the status that the program ends with, 0 where all was done
+abbrev pub code_of : Ending → ℕ
+code_of (Ok done) = 0
+code_of (Err refusal) = status_of refusal
+
+-- what is said of it, nothing where all was done
+abbrev pub said_of : Ending → List ℕ
+said_of (Ok done) = []
+said_of (Err refusal) = text_of refusal
+
+-- the text of a status, where it has no number in it
+abbrev pub text_of_status : ℕ → List ℕ
+text_of_status status =
+    if status == 2 then codes "lwip: usage\n"
+    else (if status == 5 then codes "lwip: read fault\n"
+    else (if status == 7 then codes "lwip: too long\n"
+    else (if status == 8 then codes "lwip: no memory\n" else [])))
+
+-- the statuses of the program, without 1
+abbrev pub IsStatus : ℕ → Type 0
+IsStatus status = (status ≡ 0) ⊎ ((2 ≤ status) × (status ≤ 8))
+
+-- a text was taken, or the sink failed on the way and a front of it was
+abbrev pub Says : SinkSeen → SinkSeen → List ℕ → Type 0
+Says before now text = Adds before now text ⊎ (Rose before.faults now.faults × AddsFront before now text)

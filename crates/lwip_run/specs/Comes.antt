@@ -1,59 +1,56 @@
--- What comes of a form, and of any words.
-use Rattle.std.specs.Prelude.{ℕ, ◌≡◌, ◌==◌, ◌≤◌, ◌⊎◌, List, [], length, Option, Some, Result, Ok, Err, codes, if◌then◌else◌}
-use Rattle.lw_base.specs.Outside.{Rose, Adds, AddsFront}
+-- What comes of any words: each ending with its cause.
+use Rattle.std.specs.Prelude.{ℕ, ◌≡◌, ◌≤◌, ◌⊎◌, List, length, Option, Some, Ok, Err}
+use Rattle.lw_outside.specs.Faults.{Rose}
+use Rattle.lw_outside.specs.Files.{FileSeen, FilesSeen}
+use Rattle.lw_outside.specs.Sinks.{SinkSeen, Adds, AddsFront}
 use Rattle.lw_script.specs.declared.parts.Script.{Script}
-use Rattle.lw_script.specs.Grammar.{SpellsScript}
+use Rattle.lw_script.specs.Grammar.{SpellsScript, FailsAt}
 use Rattle.lw_pcap.specs.Capture.{SpellsCapture}
-use Rattle.lwip_run.specs.declared.refusal.Refusal.{Refusal}
 use Rattle.lwip_run.specs.declared.refusal.Refusal.TheVariants.{Usage, BadScript, BadCapture, ReadFault, WriteFault, TooLong, NoMemory}
-use Rattle.lwip_run.specs.Answers.{IsNoForm, serial_words, status_of, text_of}
-use Rattle.lwip_run.specs.Serial.{IsSerialText, SerialRefused, capture_limit, script_limit}
+use Rattle.lwip_run.specs.Answers.{Ending, IsNoForm, serial_words}
+use Rattle.lwip_run.specs.Reading.{IsLonger, IsLost, SeesOne}
+use Rattle.lwip_run.specs.Serial.{CaptureFailsAt, IsSerialText, ScriptFails, SeesBoth, capture_limit, script_limit}
 
--- a text was written in part, and writing failed
-pub record WrotePart (script_held capture_held : Option (List ℕ)) (faults_before faults_now : ℕ) (before now : Option (List ℕ)) : Type 0 where
+-- what was seen of the files and of the output
+pub record Outside : Type 0 where
+  pub files : FilesSeen
+  pub out : SinkSeen
+
+abbrev pub outside : FilesSeen → SinkSeen → Outside
+outside files out = record { files = files; out = out }
+
+-- a text was taken in part, and writing failed
+pub record WrotePart (script capture : List ℕ) (before now : Outside) : Type 0 where
   pub text : List ℕ
-  pub made : IsSerialText script_held capture_held text
-  pub front : AddsFront before now text
-  pub rose : Rose faults_before faults_now
+  pub made : IsSerialText script capture before.files now.files text
+  pub front : AddsFront before.out now.out text
+  pub rose : Rose before.out.faults now.out.faults
 
--- what comes of `serial`: the whole text is written; or nothing is, for a reason; or a front of it, as writing failed
-abbrev pub SerialComes : Option (List ℕ) → Option (List ℕ) → ℕ → ℕ → ℕ → ℕ → Option (List ℕ) → Option (List ℕ) → Result (Unit {0}) Refusal → Type 0
-SerialComes s c f f' o o' w w' (Ok done) = (text : List ℕ) × IsSerialText s c text × Adds w w' text
-SerialComes s c f f' o o' w w' (Err Usage) = ⊥
-SerialComes s c f f' o o' w w' (Err WriteFault) = WrotePart s c o o' w w'
-SerialComes s c f f' o o' w w' (Err ReadFault) = SerialRefused s c f f' ReadFault × Adds w w' []
-SerialComes s c f f' o o' w w' (Err TooLong) = SerialRefused s c f f' TooLong × Adds w w' []
-SerialComes s c f f' o o' w w' (Err NoMemory) = SerialRefused s c f f' NoMemory × Adds w w' []
-SerialComes s c f f' o o' w w' (Err (BadScript line)) = SerialRefused s c f f' (BadScript line) × Adds w w' []
-SerialComes s c f f' o o' w w' (Err (BadCapture at)) = SerialRefused s c f f' (BadCapture at) × Adds w w' []
+-- this came of the script, and the capture wasn't looked for
+abbrev pub OfScript : List ℕ → Outside → Outside → (FileSeen → Type 0) → Type 0
+OfScript script before now P = SeesOne script before.files now.files P × (now.out ≡ before.out)
 
--- what comes of words: nothing where they are no form, else what comes of `serial`
-abbrev pub PlainComes : List (List ℕ) → (List ℕ → Option (List ℕ)) → ℕ → ℕ → ℕ → ℕ → Option (List ℕ) → Option (List ℕ) → Result (Unit {0}) Refusal → Type 0
-PlainComes words holds f f' o o' w w' r =
-    (IsNoForm words × (r ≡ Err Usage) × Adds w w' [])
-    ⊎ ((script : List ℕ) × (capture : List ℕ) × (words ≡ serial_words script capture) × SerialComes (holds script) (holds capture) f f' o o' w w' r)
+-- the script is one, and this came of the capture
+abbrev pub OfCapture : List ℕ → List ℕ → Outside → Outside → (FileSeen → Type 0) → Type 0
+OfCapture script capture before now P =
+    ((says : Script) × SeesBoth script capture before.files now.files says P) × (now.out ≡ before.out)
 
--- the status that the program ends with, 0 where all was done
-abbrev pub code_of : Result (Unit {0}) Refusal → ℕ
-code_of (Ok done) = 0
-code_of (Err refusal) = status_of refusal
+-- what comes of `serial`: each ending with its cause. The output takes nothing but where a text was made
+abbrev pub SerialComes : List ℕ → List ℕ → Outside → Outside → Ending → Type 0
+SerialComes script capture x y (Ok done) = (text : List ℕ) × IsSerialText script capture x.files y.files text × Adds x.out y.out text
+SerialComes script capture x y (Err Usage) = ⊥
+SerialComes script capture x y (Err (BadScript line)) = OfScript script x y (ScriptFails line)
+SerialComes script capture x y (Err (BadCapture at)) = OfCapture script capture x y (CaptureFailsAt at)
+SerialComes script capture x y (Err ReadFault) = OfScript script x y (IsLost x.files y.files) ⊎ OfCapture script capture x y (IsLost x.files y.files)
+SerialComes script capture x y (Err WriteFault) = WrotePart script capture x y
+SerialComes script capture x y (Err TooLong) = OfScript script x y (IsLonger script_limit) ⊎ OfCapture script capture x y (IsLonger capture_limit)
+SerialComes script capture x y (Err NoMemory) = OfScript script x y (λ _. Unit {0}) ⊎ OfCapture script capture x y (λ _. Unit {0})
 
--- what is said of it, nothing where all was done
-abbrev pub said_of : Result (Unit {0}) Refusal → List ℕ
-said_of (Ok done) = []
-said_of (Err refusal) = text_of refusal
-
--- the text of a status, where it has no number in it
-abbrev pub text_of_status : ℕ → List ℕ
-text_of_status status =
-    if status == 2 then codes "lwip: usage\n"
-    else (if status == 5 then codes "lwip: read fault\n"
-    else (if status == 7 then codes "lwip: too long\n"
-    else (if status == 8 then codes "lwip: no memory\n" else [])))
-
--- the statuses of the program, without 1
-abbrev pub IsStatus : ℕ → Type 0
-IsStatus status = (status ≡ 0) ⊎ ((2 ≤ status) × (status ≤ 8))
+-- what comes of words: where they are no form nothing is done, else what comes of the form
+abbrev pub Comes : List (List ℕ) → Outside → Outside → Ending → Type 0
+Comes words before now ending =
+    (IsNoForm words × (ending ≡ Err Usage) × (now ≡ before))
+    ⊎ ((script : List ℕ) × (capture : List ℕ) × (words ≡ serial_words script capture) × SerialComes script capture before now ending)
 
 -- a file that holds a script within the limit
 pub record HoldsScript (held : Option (List ℕ)) : Type 0 where
@@ -70,3 +67,11 @@ pub record HoldsCapture (held : Option (List ℕ)) : Type 0 where
   pub is : held ≡ Some octets
   pub few : length octets ≤ capture_limit
   pub spelled : SpellsCapture octets frames
+
+-- a file that holds no script, and is within the limit
+pub record HoldsNoScript (held : Option (List ℕ)) : Type 0 where
+  pub octets : List ℕ
+  pub line : ℕ
+  pub is : held ≡ Some octets
+  pub few : length octets ≤ script_limit
+  pub fails : FailsAt octets line

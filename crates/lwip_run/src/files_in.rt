@@ -1,10 +1,11 @@
-ghost use Rattle.std.specs.Prelude.{◌≤◌, MatchResult, length};
-ghost use Rattle.lw_base.specs.Outside.{SameNames};
-ghost use Rattle.lwip_run.specs.Serial.{CaptureRefused, FileRefused, IsRead, ReadsCapture, ReadsScript, ScriptRefused, capture_limit, script_limit};
+ghost use Rattle.std.specs.Prelude.{◌≡◌, MatchResult};
+ghost use Rattle.lwip_run.specs.Reading.{IsRead, SeesOne};
+ghost use Rattle.lwip_run.specs.Serial.{CaptureRefused, FileRefused, IsCapture, IsScript, ScriptRefused, refusal_of};
 
 use crate::inputs::{InputFault, read_whole};
 use crate::refusal::Refusal;
-use lw_base::{Files, FrameList};
+use lw_base::FrameList;
+use lw_outside::Files;
 use lw_pcap::{PcapFault, read_capture};
 use lw_script::{Script, ScriptFault, read_script};
 use std::alloc::Global;
@@ -18,9 +19,8 @@ const CAPTURE_LIMIT: usize = 16_777_216;
 /// Finds and reads a script.
 pub fn script_in<F: Files>(alloc: Global, files: &mut F, name: &str) -> Result<Script, Refusal>
     requires asked { F.asked name.now }
-    ensures given { MatchResult result (ReadsScript (F.holds files.old name.now)) (ScriptRefused (F.holds files.old name.now) (F.faults files.old) (F.faults files.new)) }
-    ensures later { F.faults files.old ≤ F.faults files.new }
-    ensures names { SameNames (F.holds files.old) (F.holds files.new) }
+    ensures { SeesOne name.now (F.seen files.old) (F.seen files.new) (λ file. MatchResult result
+        (λ script. IsScript script file) (λ refusal. ScriptRefused (F.seen files.old) (F.seen files.new) refusal file)) }
 {
     let octets = file_in(alloc, files, name, SCRIPT_LIMIT)?;
     match read_script(alloc, &octets) {
@@ -33,15 +33,27 @@ pub fn script_in<F: Files>(alloc: Global, files: &mut F, name: &str) -> Result<S
 /// Finds and reads a capture.
 pub fn capture_in<F: Files>(alloc: Global, files: &mut F, name: &str) -> Result<FrameList, Refusal>
     requires asked { F.asked name.now }
-    ensures given { MatchResult result (ReadsCapture (F.holds files.old name.now)) (CaptureRefused (F.holds files.old name.now) (F.faults files.old) (F.faults files.new)) }
-    ensures later { F.faults files.old ≤ F.faults files.new }
-    ensures names { SameNames (F.holds files.old) (F.holds files.new) }
+    ensures { SeesOne name.now (F.seen files.old) (F.seen files.new) (λ file. MatchResult result
+        (λ frames. IsCapture frames file) (λ refusal. CaptureRefused (F.seen files.old) (F.seen files.new) refusal file)) }
 {
     let octets = file_in(alloc, files, name, CAPTURE_LIMIT)?;
     match read_capture(alloc, &octets) {
         Ok(capture) => Ok(capture.frames),
-        Err(PcapFault::NoMemory) => Err(Refusal::NoMemory),
-        Err(fault) => Err(Refusal::BadCapture(fault.offset())),
+        Err(fault) => Err(refusal(fault)),
+    }
+}
+
+/// What a fault of a capture is refused for.
+fn refusal(fault: PcapFault) -> Refusal
+    ensures { result ≡ refusal_of fault }
+{
+    match fault {
+        PcapFault::NoMemory => Refusal::NoMemory,
+        PcapFault::BadMagic
+        | PcapFault::BadVersion
+        | PcapFault::BadLink
+        | PcapFault::Truncated { .. }
+        | PcapFault::TooLong { .. } => Refusal::BadCapture(fault.offset()),
     }
 }
 
@@ -53,9 +65,8 @@ fn file_in<F: Files>(
     limit: usize,
 ) -> Result<Vec<u8>, Refusal>
     requires asked { F.asked name.now }
-    ensures given { MatchResult result (λ v. IsRead (F.holds files.old name.now) limit v.items) (FileRefused (F.holds files.old name.now) limit (F.faults files.old) (F.faults files.new)) }
-    ensures later { F.faults files.old ≤ F.faults files.new }
-    ensures names { SameNames (F.holds files.old) (F.holds files.new) }
+    ensures { SeesOne name.now (F.seen files.old) (F.seen files.new) (λ file. MatchResult result
+        (λ v. IsRead limit file × (v.items ≡ file.gave)) (λ refusal. FileRefused limit (F.seen files.old) (F.seen files.new) refusal file)) }
 {
     match read_whole(alloc, files, name, limit) {
         Ok(octets) => Ok(octets),

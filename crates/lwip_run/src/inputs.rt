@@ -1,7 +1,7 @@
-ghost use Rattle.std.specs.Prelude.{◌≡◌, ◌<◌, ◌≤◌, length, IfOk, IfSome, Err, vec_len};
-ghost use Rattle.lw_base.specs.Outside.{Rose, SameNames};
+ghost use Rattle.std.specs.Prelude.{◌≡◌, MatchResult};
+ghost use Rattle.lwip_run.specs.Reading.{IsRead, SeesOne, Stopped};
 
-use lw_base::{Failed, Files};
+use lw_outside::{Failed, Files};
 use std::alloc::Global;
 
 /// Why a file wasn't read: a call to the files failed, the file has more octets than its limit, or
@@ -25,13 +25,8 @@ pub fn read_whole<F: Files>(
     limit: usize,
 ) -> Result<Vec<u8>, InputFault>
     requires asked { F.asked name.now }
-    ensures whole { IfOk result (λ v. IfSome (F.holds files.old name.now) (λ held. v.items ≡ held)) }
-    ensures few { IfOk result (λ v. vec_len v ≤ limit) }
-    ensures read { result ≡ Err InputFault.Read → Rose (F.faults files.old) (F.faults files.new) }
-    ensures too_long { result ≡ Err InputFault.TooLong
-        → IfSome (F.holds files.old name.now) (λ held. limit < length held) }
-    ensures later { F.faults files.old ≤ F.faults files.new }
-    ensures names { SameNames (F.holds files.old) (F.holds files.new) }
+    ensures { SeesOne name.now (F.seen files.old) (F.seen files.new) (λ file. MatchResult result
+        (λ v. IsRead limit file × (v.items ≡ file.gave)) (λ fault. Stopped limit (F.seen files.old) (F.seen files.new) fault file)) }
 {
     let number = match files.find(name) {
         Ok(number) => number,
@@ -54,48 +49,4 @@ pub fn read_whole<F: Files>(
         }
     }
     Err(InputFault::TooLong)
-}
-
-#[cfg(test)]
-mod tests {
-    use super::*;
-    use lw_base::{MemFiles, NamedFile};
-
-    // A file of 10,000 octets, which takes three reads and one that finds the end, read with the
-    // limit, where the call of this number fails; how many octets were read.
-    fn read_one(alloc: Global, limit: usize, failing: u64) -> Result<usize, InputFault> {
-        let octets = vec![in alloc; 7; 10_000].map_err(|_| InputFault::NoMemory)?;
-        let file = NamedFile::new(alloc, "capture", octets.as_slice());
-        let files = vec![in alloc; file.map_err(|_| InputFault::NoMemory)?];
-        let files = files.map_err(|_| InputFault::NoMemory)?;
-        let failing = vec![in alloc; failing].map_err(|_| InputFault::NoMemory)?;
-        let files = MemFiles::new(alloc, files, failing);
-        let mut files = files.map_err(|_| InputFault::NoMemory)?;
-        Ok(read_whole(alloc, &mut files, "capture", limit)?.len())
-    }
-
-    #[test]
-    fn a_file_is_read_to_its_limit(rt: HostRuntime) {
-        for (limit, want) in [
-            (10_001, Ok(10_000)),
-            (10_000, Ok(10_000)),
-            (9_999, Err(InputFault::TooLong)),
-            (0, Err(InputFault::TooLong)),
-            (usize::MAX, Ok(10_000)),
-        ] {
-            assert_eq!(rt; read_one(rt.alloc(), limit, 0), want, "limit {limit}");
-        }
-    }
-
-    #[test]
-    fn each_call_that_fails_is_a_read_fault(rt: HostRuntime) {
-        for failing in 1..=5u64 {
-            assert_eq!(rt;
-                read_one(rt.alloc(), 10_000, failing),
-                Err(InputFault::Read),
-                "call {failing}"
-            );
-        }
-        assert_eq!(rt; read_one(rt.alloc(), 10_000, 6), Ok(10_000));
-    }
 }

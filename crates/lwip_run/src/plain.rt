@@ -1,15 +1,16 @@
-ghost use Rattle.std.specs.Prelude.{◌≡◌, ◌≢◌, ◌↔◌, ◌≤◌, ◌⊎◌, ◌++◌, ℕ, List, [], ◌∷◌, map, string_bytes, MatchOption, MatchResult, Some, codes, decimal};
-ghost use Rattle.lw_base.specs.Outside.{Adds, Rose};
-ghost use Rattle.lwip_run.specs.Answers.{IsNoForm, Says, serial_words};
-ghost use Rattle.lwip_run.specs.Serial.{CaptureFailsAt, IsLonger, IsSerialText, IsSomeScript, ScriptFails, SerialRefused, capture_limit, script_limit};
-ghost use Rattle.lwip_run.specs.Comes.{HoldsCapture, HoldsScript, IsStatus, PlainComes, SerialComes, WrotePart, code_of, said_of, text_of_status};
-ghost use Rattle.lwip_run.specs.Answers.{text_of};
+ghost use Rattle.std.specs.Prelude.{◌≡◌, ◌≢◌, ◌↔◌, ◌⊎◌, ◌++◌, ℕ, List, [], ◌∷◌, map, string_bytes, MatchOption, MatchResult, codes, decimal};
+ghost use Rattle.lw_outside.specs.Faults.{Rose};
+ghost use Rattle.lw_outside.specs.Sinks.{Adds};
+ghost use Rattle.lwip_run.specs.Answers.{Ending, IsNoForm, IsStatus, Says, code_of, said_of, serial_words, text_of, text_of_status};
+ghost use Rattle.lwip_run.specs.Reading.{IsLonger, IsLost, SeesOne};
+ghost use Rattle.lwip_run.specs.Serial.{CaptureFailsAt, IsSerialText, ScriptFails, SerialRefused, capture_limit, script_limit};
+ghost use Rattle.lwip_run.specs.Comes.{Comes, HoldsCapture, HoldsNoScript, HoldsScript, OfCapture, OfScript, SerialComes, WrotePart, outside};
 
 use crate::files_in::{capture_in, script_in};
 use crate::outputs::write_whole;
 use crate::refusal::Refusal;
 use crate::texts::serial_text;
-use lw_base::{Files, Sink};
+use lw_outside::{Files, Sink};
 use std::alloc::Global;
 
 /// Does what the words say, which are those behind the program's name: `serial SCRIPT CAPTURE` reads
@@ -24,38 +25,46 @@ pub fn lwip_plain<F: Files, K: Sink>(
 ) -> u8
     requires asked { (script capture : List ℕ) → map string_bytes words.now ≡ serial_words script capture → F.asked script × F.asked capture }
 
+    // each ending with its cause, and what was said of it
+    ensures comes { (ending : Ending) × (result ≡ code_of ending)
+        × Comes (map string_bytes words.now) (outside (F.seen files.old) (K.seen out.old)) (outside (F.seen files.new) (K.seen out.new)) ending
+        × Says (K.seen err.old) (K.seen err.new) (said_of ending) }
+
     // 0: the transcript of the serial schedule was written, and it is legal
     ensures done { (script capture : List ℕ) → map string_bytes words.now ≡ serial_words script capture → result ≡ 0
-        → (text : List ℕ) × IsSerialText (F.holds files.old script) (F.holds files.old capture) text
-        × Adds (K.written out.old) (K.written out.new) text }
+        → (text : List ℕ) × IsSerialText script capture (F.seen files.old) (F.seen files.new) text
+        × Adds (K.seen out.old) (K.seen out.new) text }
 
     // the other statuses, each with its cause
     ensures usage { (result ≡ 2) ↔ IsNoForm (map string_bytes words.now) }
     ensures script_line { (script capture : List ℕ) → map string_bytes words.now ≡ serial_words script capture → result ≡ 3
-        → (line : ℕ) × ScriptFails (F.holds files.old script) line
-        × Says (K.faults err.old) (K.faults err.new) (K.written err.old) (K.written err.new) (text_of (Refusal.BadScript line)) }
+        → (line : ℕ) × SeesOne script (F.seen files.old) (F.seen files.new) (ScriptFails line)
+        × Says (K.seen err.old) (K.seen err.new) (text_of (Refusal.BadScript line)) }
     ensures capture_at { (script capture : List ℕ) → map string_bytes words.now ≡ serial_words script capture → result ≡ 4
-        → (at : ℕ) × IsSomeScript (F.holds files.old script) × CaptureFailsAt (F.holds files.old capture) at
-        × Says (K.faults err.old) (K.faults err.new) (K.written err.old) (K.written err.new) (text_of (Refusal.BadCapture at)) }
-    ensures read_fault { result ≡ 5 → Rose (F.faults files.old) (F.faults files.new) }
+        → (at : ℕ) × OfCapture script capture (outside (F.seen files.old) (K.seen out.old)) (outside (F.seen files.new) (K.seen out.new)) (CaptureFailsAt at)
+        × Says (K.seen err.old) (K.seen err.new) (text_of (Refusal.BadCapture at)) }
+    ensures read_fault { result ≡ 5 → Rose (F.seen files.old).faults (F.seen files.new).faults }
     ensures write_fault { (script capture : List ℕ) → map string_bytes words.now ≡ serial_words script capture → result ≡ 6
-        → WrotePart (F.holds files.old script) (F.holds files.old capture)
-        (K.faults out.old) (K.faults out.new) (K.written out.old) (K.written out.new) }
+        → WrotePart script capture (outside (F.seen files.old) (K.seen out.old)) (outside (F.seen files.new) (K.seen out.new)) }
     ensures too_long { (script capture : List ℕ) → map string_bytes words.now ≡ serial_words script capture → result ≡ 7
-        → IsLonger (F.holds files.old script) script_limit
-        ⊎ (IsSomeScript (F.holds files.old script) × IsLonger (F.holds files.old capture) capture_limit) }
+        → OfScript script (outside (F.seen files.old) (K.seen out.old)) (outside (F.seen files.new) (K.seen out.new)) (IsLonger script_limit)
+        ⊎ OfCapture script capture (outside (F.seen files.old) (K.seen out.old)) (outside (F.seen files.new) (K.seen out.new)) (IsLonger capture_limit) }
     ensures known { IsStatus result }
 
     // what is not written, and what is said
-    ensures quiet { result ≢ 0 → result ≢ 6 → Adds (K.written out.old) (K.written out.new) [] }
-    ensures said { result ≢ 3 → result ≢ 4
-        → Says (K.faults err.old) (K.faults err.new) (K.written err.old) (K.written err.new) (text_of_status result) }
+    ensures quiet { result ≢ 0 → result ≢ 6 → K.seen out.new ≡ K.seen out.old }
+    ensures said { result ≢ 3 → result ≢ 4 → Says (K.seen err.old) (K.seen err.new) (text_of_status result) }
 
     // files that can be taken, and no fault: done, but for want of memory
     ensures complete { (script capture : List ℕ) → map string_bytes words.now ≡ serial_words script capture
-        → HoldsScript (F.holds files.old script) → HoldsCapture (F.holds files.old capture)
-        → (Rose (F.faults files.old) (F.faults files.new) → ⊥) → (Rose (K.faults out.old) (K.faults out.new) → ⊥)
+        → HoldsScript ((F.seen files.old).holds script) → HoldsCapture ((F.seen files.old).holds capture)
+        → (Rose (F.seen files.old).faults (F.seen files.new).faults → ⊥) → (Rose (K.seen out.old).faults (K.seen out.new).faults → ⊥)
         → (result ≡ 0) ⊎ (result ≡ 8) }
+
+    // a script that is none: its line, also where there is no capture, but for want of memory and where the script wasn't read
+    ensures script_first { (script capture : List ℕ) → map string_bytes words.now ≡ serial_words script capture
+        → HoldsNoScript ((F.seen files.old).holds script)
+        → (result ≡ 3) ⊎ ((result ≡ 8) ⊎ SeesOne script (F.seen files.old) (F.seen files.new) (IsLost (F.seen files.old) (F.seen files.new))) }
 {
     let done = plain(alloc, words, files, out);
     answer(err, done)
@@ -69,7 +78,7 @@ fn plain<F: Files, K: Sink>(
     out: &mut K,
 ) -> Result<(), Refusal>
     requires asked { (script capture : List ℕ) → map string_bytes words.now ≡ serial_words script capture → F.asked script × F.asked capture }
-    ensures { PlainComes (map string_bytes words.now) (F.holds files.old) (F.faults files.old) (F.faults files.new) (K.faults out.old) (K.faults out.new) (K.written out.old) (K.written out.new) result }
+    ensures { Comes (map string_bytes words.now) (outside (F.seen files.old) (K.seen out.old)) (outside (F.seen files.new) (K.seen out.new)) result }
 {
     match form(words) {
         Some((script, capture)) => serial_form(alloc, files, out, script, capture),
@@ -80,7 +89,7 @@ fn plain<F: Files, K: Sink>(
 /// The status, and its text on `err`.
 fn answer<K: Sink>(err: &mut K, done: Result<(), Refusal>) -> u8
     ensures code { result ≡ code_of done }
-    ensures said { Says (K.faults err.old) (K.faults err.new) (K.written err.old) (K.written err.new) (said_of done) }
+    ensures said { Says (K.seen err.old) (K.seen err.new) (said_of done) }
 {
     match done {
         Ok(()) => 0,
@@ -113,7 +122,7 @@ fn serial_files<F: Files>(
 ) -> Result<Vec<u8>, Refusal>
     requires script { F.asked script.now }
     requires capture { F.asked capture.now }
-    ensures { MatchResult result (λ text. IsSerialText (F.holds files.old script.now) (F.holds files.old capture.now) text.items) (SerialRefused (F.holds files.old script.now) (F.holds files.old capture.now) (F.faults files.old) (F.faults files.new)) }
+    ensures { MatchResult result (λ text. IsSerialText script.now capture.now (F.seen files.old) (F.seen files.new) text.items) (SerialRefused script.now capture.now (F.seen files.old) (F.seen files.new)) }
 {
     let says = script_in(alloc, files, script)?;
     let frames = capture_in(alloc, files, capture)?;
@@ -133,7 +142,7 @@ fn serial_form<F: Files, K: Sink>(
 ) -> Result<(), Refusal>
     requires script { F.asked script.now }
     requires capture { F.asked capture.now }
-    ensures { SerialComes (F.holds files.old script.now) (F.holds files.old capture.now) (F.faults files.old) (F.faults files.new) (K.faults out.old) (K.faults out.new) (K.written out.old) (K.written out.new) result }
+    ensures { SerialComes script.now capture.now (outside (F.seen files.old) (K.seen out.old)) (outside (F.seen files.new) (K.seen out.new)) result }
 {
     let text = serial_files(alloc, files, script, capture)?;
     match write_whole(out, &text) {

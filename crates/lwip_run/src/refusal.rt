@@ -1,10 +1,11 @@
 ghost use Rattle.std.specs.Prelude.{◌≡◌, ◌++◌, OnErr, OnOk, decimal, codes};
-ghost use Rattle.lw_base.specs.Outside.{Adds, AddsFront, HasCause};
+ghost use Rattle.lw_outside.specs.Faults.{HasCause};
+ghost use Rattle.lw_outside.specs.Sinks.{Adds, AddsFront};
 ghost use Rattle.lwip_run.specs.Answers.{Says, status_of, text_of};
 
 use crate::outputs::write_whole;
 use itoa::Buffer;
-use lw_base::{Failed, Sink};
+use lw_outside::{Failed, Sink};
 
 /// Why a form was not done.
 #[derive(Clone, Copy, Debug, PartialEq, Eq)]
@@ -40,7 +41,7 @@ impl Refusal {
 
     /// Writes the text of this refusal, as far as the sink takes it.
     pub fn say<K: Sink>(self, err: &mut K)
-        ensures { Says (K.faults err.old) (K.faults err.new) (K.written err.old) (K.written err.new) (text_of self) }
+        ensures { Says (K.seen err.old) (K.seen err.new) (text_of self) }
     {
         let _ = match self {
             Refusal::Usage => write_whole(err, b"lwip: usage\n"),
@@ -56,9 +57,9 @@ impl Refusal {
 
 /// Writes a line that ends in a number, piece by piece: it takes no memory.
 fn write_numbered<K: Sink>(sink: &mut K, head: &[u8], number: usize) -> Result<(), Failed>
-    ensures ok { OnOk result (Adds (K.written sink.old) (K.written sink.new) ((head.now ++ decimal number) ++ codes "\n")) }
-    ensures failed { OnErr result (AddsFront (K.written sink.old) (K.written sink.new) ((head.now ++ decimal number) ++ codes "\n")) }
-    ensures cause { HasCause (K.faults sink.old) (K.faults sink.new) result }
+    ensures ok { OnOk result (Adds (K.seen sink.old) (K.seen sink.new) ((head.now ++ decimal number) ++ codes "\n")) }
+    ensures failed { OnErr result (AddsFront (K.seen sink.old) (K.seen sink.new) ((head.now ++ decimal number) ++ codes "\n")) }
+    ensures cause { HasCause (K.seen sink.old).faults (K.seen sink.new).faults result }
 {
     let mut buffer = Buffer::new();
     write_two(sink, head, buffer.format(number).as_bytes())?;
@@ -68,9 +69,9 @@ fn write_numbered<K: Sink>(sink: &mut K, head: &[u8], number: usize) -> Result<(
 
 /// Writes two pieces.
 fn write_two<K: Sink>(sink: &mut K, first: &[u8], second: &[u8]) -> Result<(), Failed>
-    ensures ok { OnOk result (Adds (K.written sink.old) (K.written sink.new) (first.now ++ second.now)) }
-    ensures failed { OnErr result (AddsFront (K.written sink.old) (K.written sink.new) (first.now ++ second.now)) }
-    ensures cause { HasCause (K.faults sink.old) (K.faults sink.new) result }
+    ensures ok { OnOk result (Adds (K.seen sink.old) (K.seen sink.new) (first.now ++ second.now)) }
+    ensures failed { OnErr result (AddsFront (K.seen sink.old) (K.seen sink.new) (first.now ++ second.now)) }
+    ensures cause { HasCause (K.seen sink.old).faults (K.seen sink.new).faults result }
 {
     write_whole(sink, first)?;
     write_whole(sink, second)?;

@@ -1,13 +1,10 @@
-ghost use Rattle.std.specs.Prelude.{None};
-
-use lw_base::{Failed, MemSink, Sink};
+use lw_outside::{Failed, MemSink, Sink};
 use std::alloc::{AllocError, Global};
 
 // Octets that a narrow sink takes at a time.
 const WIDTH: usize = 100;
 
-/// A sink in memory that takes at most 100 octets at a time. Of what was written it tells nothing to
-/// contracts.
+/// A sink in memory that takes at most 100 octets at a time.
 #[derive(Drop)]
 pub struct NarrowSink {
     inner: MemSink,
@@ -27,9 +24,7 @@ impl NarrowSink {
 }
 
 impl Sink for NarrowSink {
-    ghost written = { λ _. None };
-
-    ghost faults = { λ s. ⟦<MemSink as Sink>⟧.faults s.inner };
+    ghost seen = { λ s. ⟦<MemSink as Sink>⟧.seen s.inner };
 
     fn write(&mut self, piece: &[u8]) -> Result<usize, Failed> {
         let (front, _) = piece.split_at(piece.len().min(WIDTH));

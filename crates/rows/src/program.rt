@@ -1,5 +1,5 @@
 use crate::narrow::NarrowSink;
-use lw_base::{MemFiles, NamedFile};
+use lw_outside::{MemFiles, NamedFile};
 use lwip_run::lwip_plain;
 use std::alloc::{AllocError, Global};
 

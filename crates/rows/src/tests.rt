@@ -1,7 +1,7 @@
 use crate::captures::{BIG, BIG_NANO, LITTLE, LITTLE_NANO, arp_request};
 use crate::narrow::NarrowSink;
 use crate::program::{Failing, SURE, run, words_of};
-use lw_base::{Failed, Files, Sink, StdFiles, StdSink};
+use lw_outside::{Failed, Files, Sink, StdFiles, StdSink};
 use lwip_run::lwip_plain;
 use std::fs;
 use std::test::Fail;

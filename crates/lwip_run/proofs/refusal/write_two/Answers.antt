@@ -3,12 +3,12 @@ use Rattle.lwip_run.proofs.refusal.write_two.Goals as goal
 
 pub returns-in_err-write_whole-clause-failed : goal.returns-in_err-write_whole-clause-failed
 returns-in_err-write_whole-clause-failed g c =
-    let written = g.K.Sink.written in
+    let seen = g.K.Sink.seen in
     on_error c.from_residual.result
-    (first_front (written c.args.sink.now) (written c.write_whole.new.sink) c.args.first.now c.args.second.now c.in_err-write_whole.ensures.failed)
+    (first_front (seen c.args.sink.now) (seen c.write_whole.new.sink) c.args.first.now c.args.second.now c.in_err-write_whole.ensures.failed)
 
 pub returns-in_err-write_whole-2-clause-failed : goal.returns-in_err-write_whole-2-clause-failed
 returns-in_err-write_whole-2-clause-failed g c =
-    let written = g.K.Sink.written in
+    let seen = g.K.Sink.seen in
     on_error c.from_residual-in_err-write_whole-2.result
-    (second_front (written c.args.sink.now) (written c.write_whole.new.sink) (written c.write_whole-2.new.sink) c.args.first.now c.args.second.now c.in_ok-write_whole.ensures.ok c.in_err-write_whole-2.ensures.failed)
+    (second_front (seen c.args.sink.now) (seen c.write_whole.new.sink) (seen c.write_whole-2.new.sink) c.args.first.now c.args.second.now c.in_ok-write_whole.ensures.ok c.in_err-write_whole-2.ensures.failed)
