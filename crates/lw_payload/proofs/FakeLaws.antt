@@ -74,7 +74,7 @@ once_in_range x a (suc n) =
     at_most_once x a rest later none = grind (arith, nat_tests)
 
 -- the places in a list are as many as the list is long, or fewer
-sum_of_times : (places : List ℕ) (n : ℕ) → sum_by (λ i. times i places) (range_with_len 0 n) ≤ length places
+pub sum_of_times : (places : List ℕ) (n : ℕ) → sum_by (λ i. times i places) (range_with_len 0 n) ≤ length places
 sum_of_times [] n = let e = sum_of_nothing (λ (i : ℕ). times i []) (λ i. refl) (range_with_len 0 n) in omega arith
 sum_of_times (x ∷ xs) n =
     let both = sum_of_both (λ i. cond {A = ℕ} (eqb x i) 1 0) (λ i. times i xs) (λ i. times i (x ∷ xs)) (λ i. sum_by-cons (λ p. cond {A = ℕ} (eqb p i) 1 0) x xs) (range_with_len 0 n) in

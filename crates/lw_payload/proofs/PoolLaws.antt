@@ -2,7 +2,7 @@ use Rattle.std.proofs.Common.{◌≡◌, ℕ, ◌+◌, ◌-◌, ◌*◌, ◌^◌
 use Rattle.std.specs.Option.{IsSome, IsSomeAnd, IfSome}
 use Rattle.std.proofs.lemmas.List.Sums.{sum_by-take-drop, sum_by-take-le, count_by-le-length}
 use Rattle.lw_payload.specs.declared.kinds.Kind.{Kind}
-use Rattle.lw_payload.specs.declared.kinds.Kind.TheVariants.{Pool}
+use Rattle.lw_payload.specs.declared.kinds.Kind.TheVariants.{Ram, Pool, Rom, Ref}
 use Rattle.lw_payload.specs.Views.{Slot, Makes, IsOf, IsShort, free_of, pbufs_of, pool_one}
 use Rattle.lw_payload.specs.Calls.{IsMade, IsRefused, KeepsHome, IsCut, IsShared, IsSpent, last_of, asked_after}
 use Rattle.lw_payload.specs.Fake.{number_of, same_kind, times, free_count, counted_rows, family_of, one_kept, Hands}
@@ -193,10 +193,15 @@ pool_refused h kind m counts free needed e need short small taken denied =
       asked = λ pool. if_kept (same_kind kind h.kept) (length h.counts.items) (λ n. n < counts.asked) (λ own.
           let most = taken (sym (same_kind_true kind h.kept own) ∙ pool) in
           let all : needed ≡ pbufs_of kind m = need ∙ rw own refl in
-          let one : pool_one kind ≡ 1 = rw pool refl in
-          let asks : asked_after kind m h.makes.asked ≡ min (h.makes.asked + 1 * pbufs_of kind m) (2 ^ 64 - 1) = rw one refl in
+          let asks : asked_after kind m h.makes.asked ≡ min (h.makes.asked + pbufs_of kind m) (2 ^ 64 - 1) = rw pool refl in
           omega arith);
     }
+
+pub asked_most : (kind : Kind) (n asked : ℕ) → asked_after kind n asked ≤ asked + pool_one kind * pbufs_of kind n
+asked_most Ram n asked = omega arith
+asked_most Pool n asked = omega arith
+asked_most Rom n asked = omega arith
+asked_most Ref n asked = omega arith
 
 -- what every make keeps
 pub pool_keeps : (h : Slots) (kind : Kind) (m : ℕ) (now : List ℕ) (counts : MakeCounts) → length now ≡ length h.counts.items → h.makes.asked ≤ counts.asked → counts.asked ≤ h.makes.asked + pool_one kind * pbufs_of kind m

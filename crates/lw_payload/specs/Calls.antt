@@ -7,7 +7,10 @@ use Rattle.lw_payload.specs.Views.{Slot, View, HomeView, pbufs_of, pool_one, fre
 
 -- the pbufs of POOL asked for, after a make of n octets of this kind; the count ends at 2^64 - 1
 abbrev pub asked_after : Kind → ℕ → ℕ → ℕ
-asked_after kind n asked = min (asked + pool_one kind * pbufs_of kind n) (2 ^ 64 - 1)
+asked_after Ram n asked = asked
+asked_after Pool n asked = min (asked + pbufs_of Pool n) (2 ^ 64 - 1)
+asked_after Rom n asked = asked
+asked_after Ref n asked = asked
 
 -- a payload p of these octets was made: it is fresh, of the Home's family, with at most one part for each octet and at
 -- least 65,533 shares; its rows and its weight came out of the Home. Its rows are of this kind, only where that is kept,

@@ -379,9 +379,13 @@ impl PoolSeat {
     #[inline(always)]
     pub fn denied(&mut self, octets: u32)
         requires countable { self.old.makes.made + self.old.makes.refused < 2 ^ 64 - 1 }
-        requires few { self.old.claimed ≤ pbufs_of Kind.Pool octets }
+        requires few { self.old.claimed < pbufs_of Kind.Pool octets }
         ensures counted { self.new ≡ record self.old { makes = record self.old.makes { refused = self.old.makes.refused + 1; last_refused = octets; asked = min (self.old.makes.asked + pbufs_of Kind.Pool octets) (2 ^ 64 - 1) }; claimed = 0 } }
         ensures grows { self.old.makes.asked ≤ self.new.makes.asked }
+
+        // More pbufs of POOL were asked for than the right to claim has claimed, or than are in use of those that are kept.
+        ensures claims { self.new.makes.asked < 2 ^ 64 - 1 → length self.new.holder.got < self.new.makes.asked }
+        ensures kept { self.new.makes.asked < 2 ^ 64 - 1 → length self.new.kept.pool.items < free_count self.new.kept.pool.items + self.new.makes.asked }
     {
         self.makes.refused += 1;
         self.makes.last_refused = octets;

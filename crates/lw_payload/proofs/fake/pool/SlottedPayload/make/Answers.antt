@@ -1,7 +1,7 @@
 use Rattle.std.proofs.Common.{length, min, vec_capacity, ◌-◌, refl, ap, arith}
 use Rattle.std.specs.Vec.{with_items}
 use Rattle.std.proofs.lemmas.List.{with_items_is}
-use Rattle.lw_payload.proofs.PoolLaws.{pool_short, pool_enough, pool_refused, pool_keeps, pool_made}
+use Rattle.lw_payload.proofs.PoolLaws.{pool_short, pool_enough, pool_refused, pool_keeps, asked_most, pool_made}
 use Rattle.lw_payload.proofs.fake.pool.SlottedPayload.make.Goals as goal
 
 pub returns-then-free-needed-clause-empty : goal.returns-then-free-needed-clause-empty
@@ -21,6 +21,7 @@ returns-then-free-needed-clause-kept_short c = λ k e some.
 pub returns-then-free-needed-clause-keeps : goal.returns-then-free-needed-clause-keeps
 returns-then-free-needed-clause-keeps c =
     let asked = ap (λ m. m.asked) c.denied-home.ensures.exact in
+    let most = asked_most c.args.kind (length c.args.octets.now) c.args.home.now.makes.asked in
     pool_keeps c.args.home.now c.args.kind (length c.args.octets.now) c.args.home.now.counts.items c.denied-home.result refl c.denied-home.ensures.least (omega arith)
 
 pub returns-clause-made : goal.returns-clause-made
@@ -45,5 +46,6 @@ returns-clause-enough c = λ ok.
 pub returns-clause-keeps : goal.returns-clause-keeps
 returns-clause-keeps c =
     let asked = ap (λ m. m.asked) c.granted-home.ensures.exact in
+    let most = asked_most c.args.kind (length c.args.octets.now) c.args.home.now.makes.asked in
     let same = ap length (with_items_is c.args.home.now.counts c.take.new.counts (omega arith)) in
     pool_keeps c.args.home.now c.args.kind (length c.args.octets.now) (with_items c.args.home.now.counts c.take.new.counts).items c.granted-home.result (omega arith) c.granted-home.ensures.least (omega arith)
