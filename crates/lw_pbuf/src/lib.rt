@@ -2,8 +2,6 @@
 #![tactic(auto)]
 
 mod chain;
-#[cfg(test)]
-mod chain_tests;
 mod copy;
 mod cut;
 mod free;
@@ -12,8 +10,6 @@ mod parts;
 mod payload;
 mod share;
 mod take;
-#[cfg(test)]
-mod tests;
 #[cfg(test)]
 mod thread_tests;
 

@@ -69,12 +69,7 @@ pub(crate) fn has_adds(pbufs: &[Pbuf]) -> bool
 
 /// Adds an owner of each pbuf, for a list that has room for all of them.
 #[inline(always)]
-pub(crate) fn add_owners(
-    pbufs: &mut [Pbuf],
-    others: &mut Vec<Pbuf>,
-    seat: &PoolSeat,
-    hands: bool,
-)
+pub(crate) fn add_owners(pbufs: &mut [Pbuf], others: &mut Vec<Pbuf>, seat: &PoolSeat, hands: bool)
     requires may { MayShare seat.now (bare pbufs.old) }
     requires none { others.old.items ≡ [] }
     requires room { length pbufs.old ≤ vec_capacity others.old }

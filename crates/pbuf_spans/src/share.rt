@@ -107,13 +107,7 @@ impl Span {
 
     // The second span, which gets this window: its owners are added.
     #[inline(always)]
-    fn second(
-        &mut self,
-        window: Window,
-        mut pbufs: Vec<Pbuf>,
-        seat: &PoolSeat,
-        hands: bool,
-    ) -> Span
+    fn second(&mut self, window: Window, mut pbufs: Vec<Pbuf>, seat: &PoolSeat, hands: bool) -> Span
         requires window { window.octets ≡ joined self.old }
         requires shared { All (λ p. p.own ≡ false) self.old }
         requires may { MayShare seat.now self.old }

@@ -2,7 +2,6 @@ use Rattle.std.proofs.Common.{rules, ap, sym, ◌∙◌, List, true, arith}
 use Rattle.lw_payload.specs.declared.kinds.Kind.{Kind}
 use Rattle.pbuf_spans.specs.Parts.{Part, rows_in}
 use Rattle.lw_pbuf.specs.Takes.{is_counted}
-use Rattle.lw_pbuf.proofs.Homes.{rows_seconds}
 use Rattle.lw_pbuf.proofs.Threads.{no_rows}
 use Rattle.lw_pbuf.proofs.thread_tests.make_two.Goals as goal
 
@@ -14,7 +13,7 @@ returns-clause-second c =
     record {
       table = shared.second_table ∙ (made.table ∙ sym c.requires.table);
       listed = λ s.
-          let same = ap (λ (l : List Part). rows_in l s) shared.second ∙ rows_seconds true c.in_ok-first.first.parts s in
+          let some = shared.rows s in
           let zero = no_rows (rows_in c.in_ok-first.first.parts s) (is_counted c.args.feeder.now Kind.Pool) _ (made.kept s) (search rules) in
           omega arith;
     }
