@@ -11,7 +11,7 @@ mod payload;
 mod share;
 mod take;
 #[cfg(test)]
-mod thread_tests;
+mod tests;
 
 pub use chain::Chain;
 pub use free::pbuf_free;

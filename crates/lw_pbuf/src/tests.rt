@@ -1,4 +1,4 @@
-//! Chains that two threads give up at once.
+//! A chain from its make to its end, and chains that two threads give up at once.
 ghost use Rattle.std.specs.Prelude.{◌≡◌, ◌+◌, ◌-◌, ◌<◌, ◌^◌, length, IfOk, OnOk};
 ghost use Rattle.lw_pbuf.specs.Chains.{IsOf};
 ghost use Rattle.pbuf_seats.specs.Kept.{counts_of};
@@ -75,5 +75,19 @@ fn each_life_ends_in_one_of_two_threads(rt: HostRuntime) -> Result<(), Fail> {
         core.join(feeder);
         assert!(rt; core.free().pool == 8);
     }
+    Ok(())
+}
+
+#[test]
+fn a_chain_is_made_cut_read_and_given_up(rt: HostRuntime) -> Result<(), Fail> {
+    let mut seat = PoolSeat::new(rt.alloc(), &LIMITS, true)?;
+    let mut chain = pbuf_alloc(rt.alloc(), &mut seat, Kind::Ram, b"octets")?;
+    chain.header(&mut seat, 2);
+    chain.cut_back(&mut seat, 1);
+    let mut out = [0u8; 2];
+    chain.copy_at(1, &mut out);
+    assert!(rt; out[0] == b'e');
+    assert!(rt; out[1] == b't');
+    assert!(rt; pbuf_free(chain, &mut seat) == 1);
     Ok(())
 }

@@ -3,7 +3,7 @@ use Rattle.lw_payload.specs.declared.kinds.Kind.{Kind}
 use Rattle.pbuf_spans.specs.Parts.{Part, rows_in}
 use Rattle.lw_pbuf.specs.Takes.{is_counted}
 use Rattle.lw_pbuf.proofs.Threads.{no_rows}
-use Rattle.lw_pbuf.proofs.thread_tests.make_two.Goals as goal
+use Rattle.lw_pbuf.proofs.tests.make_two.Goals as goal
 
 pub returns-clause-second : goal.returns-clause-second
 returns-clause-second c =
