@@ -1,5 +1,5 @@
 -- How a chain is shared.
-use Rattle.std.proofs.Common.{◌≡◌, ℕ, ◌+◌, ◌-◌, ◌<◌, ◌≤◌, Bool, true, false, ◌&&◌, min, cond, eqb, List, [], ◌∷◌, ◌++◌, length, map, set, take, drop, get_or, All, refl, sym, ap, ◌∙◌, subst, arith, length-append, length-set, length-drop}
+use Rattle.std.proofs.Common.{◌≡◌, ℕ, ◌+◌, ◌-◌, ◌<◌, ◌≤◌, Bool, false, min, List, [], ◌∷◌, ◌++◌, length, map, set, take, drop, get_or, All, refl, sym, ap, ◌∙◌, subst, arith, length-set, length-drop}
 use Rattle.std.proofs.Common.{Result, Ok, Err}
 use Rattle.std.specs.List.{AllZip, refill}
 use Rattle.std.specs.Result.{IfOk, OnOk}
@@ -9,15 +9,13 @@ use Rattle.std.proofs.lemmas.List.Elements.{All-append, All-push, All-map, All-w
 use Rattle.std.proofs.lemmas.List.Sums.{sum_by-append}
 use Rattle.atomic_table.specs.Seated.{TableId}
 use Rattle.lw_payload.specs.declared.kinds.ShareFault.{ShareFault}
-use Rattle.lw_payload.specs.Views.{Slot}
 use Rattle.pbuf_counts.specs.Holders.{Known, owner_of}
 use Rattle.pbuf_seats.specs.declared.owner.Owner.{Owner}
 use Rattle.pbuf_seats.specs.declared.owner.Owner.TheVariants.{Kept, Counted}
-use Rattle.pbuf_seats.specs.Kept.{rows_of}
 use Rattle.pbuf_seats.specs.Owners.{row_of, weight_of, adds_of, sharing, share_of}
 use Rattle.pbuf_seats.specs.Seats.{SeatSeen}
 use Rattle.pbuf_spans.specs.declared.twin.Twin.{Twin}
-use Rattle.pbuf_spans.specs.Parts.{Part, rows_in, weight_in, least_adds, IsUnder, IsChain, IsSpent}
+use Rattle.pbuf_spans.specs.Parts.{Part, rows_in, weight_in, least_adds, IsUnder, IsChain}
 use Rattle.lw_pbuf.specs.Chains.{ChainSeen, all_parts, NoneEmpty, IsOf}
 use Rattle.pbuf_spans.specs.Shares.{handed, first_of, second_of, MayShare, AllShared, IsTwin}
 use Rattle.lw_pbuf.specs.Shares.{IsSharedTo, IsChained}

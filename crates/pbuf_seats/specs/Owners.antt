@@ -1,5 +1,5 @@
 -- What an owner of a pbuf is, and how it is given up.
-use Rattle.std.specs.Prelude.{◌≡◌, ℕ, ◌+◌, ◌-◌, ◌<◌, ◌≤◌, ◌↔◌, Bool, true, cond, ◌∷◌, length}
+use Rattle.std.specs.Prelude.{◌≡◌, ℕ, ◌+◌, ◌-◌, ◌≤◌, ◌↔◌, Bool, true, cond, ◌∷◌, length}
 use Rattle.lw_payload.specs.Views.{Slot}
 use Rattle.pbuf_counts.specs.Owners.{IsCount}
 use Rattle.pbuf_counts.specs.Holders.{Known, owner_of, view_of}

@@ -1,5 +1,5 @@
 -- Owners of pbufs: how they are looked at, given up and added.
-use Rattle.std.proofs.Common.{◌≡◌, ℕ, zero, suc, ◌+◌, ◌-◌, ◌<◌, ◌≤◌, Bool, true, false, ◌&&◌, cond, min, eqb, eq-eqb, List, [], ◌∷◌, ◌++◌, length, map, set, take, drop, get_or, All, Some, refl, sym, ap, ◌∙◌, subst, arith, length-append, length-take, length-set, append_assoc}
+use Rattle.std.proofs.Common.{◌≡◌, ℕ, zero, suc, ◌+◌, ◌<◌, ◌≤◌, Bool, true, ◌&&◌, cond, min, eq-eqb, List, [], ◌∷◌, ◌++◌, length, map, set, take, drop, get_or, All, Some, refl, sym, ap, ◌∙◌, subst, arith, length-append, length-take, length-set, append_assoc}
 use Rattle.std.specs.Prelude.{sum_by}
 use Rattle.std.proofs.lemmas.List.{length-map, drop-drop, drop_more, take_more, take_more_set, drop-set-lt, take_all, drop_all, map_push, get_or-drop}
 use Rattle.std.proofs.lemmas.List.Elements.{All-pop, All-get_or}
@@ -17,7 +17,7 @@ use Rattle.pbuf_seats.specs.Seats.{SeatSeen}
 use Rattle.pbuf_spans.specs.Parts.{Part, rows_in, weight_in, least_adds, IsUnder, IsSameSeat, IsSpent, GivesBack}
 use Rattle.pbuf_spans.specs.Spans.{bare}
 use Rattle.pbuf_spans.specs.Shares.{first_held, second_held, MayShare, OwnersShared}
-use Rattle.pbuf_spans.proofs.Spans.{length-bare, bare_owners}
+use Rattle.pbuf_spans.proofs.Spans.{bare_owners}
 
 -- Sums over owners
 

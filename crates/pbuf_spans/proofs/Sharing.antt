@@ -3,21 +3,16 @@ use Rattle.std.proofs.Common.{◌≡◌, ℕ, ◌+◌, ◌-◌, ◌≤◌, min, 
 use Rattle.std.specs.Prelude.{slice_range}
 use Rattle.std.specs.List.{refill}
 use Rattle.std.proofs.lemmas.List.{length-map, take_all, drop_all}
-use Rattle.std.proofs.lemmas.List.Elements.{All-head, All-nil, All-cons, All-map, All-weaker}
-use Rattle.atomic_table.specs.Seated.{TableId}
-use Rattle.lw_payload.specs.Views.{Slot}
-use Rattle.pbuf_counts.specs.Holders.{Known, owner_of}
+use Rattle.std.proofs.lemmas.List.Elements.{All-head, All-nil, All-cons, All-map}
 use Rattle.pbuf_seats.specs.declared.owner.Owner.{Owner}
-use Rattle.pbuf_seats.specs.declared.owner.Owner.TheVariants.{Kept, Counted}
 use Rattle.pbuf_seats.specs.declared.pbuf.Pbuf.{Pbuf}
-use Rattle.pbuf_seats.specs.Kept.{rows_of}
 use Rattle.pbuf_seats.specs.Owners.{row_of, weight_of, adds_of, sharing, share_of}
 use Rattle.pbuf_seats.specs.Seats.{SeatSeen}
 use Rattle.pbuf_spans.specs.declared.body.Body.{Body}
-use Rattle.pbuf_spans.specs.Parts.{Part, joined, rows_in, weight_in, least_adds, IsUnder, IsSpent}
+use Rattle.pbuf_spans.specs.Parts.{Part, joined, rows_in, weight_in, least_adds, IsUnder}
 use Rattle.pbuf_spans.specs.Spans.{lens, parts_of, bare, octets_of, is_own, IsSpan}
 use Rattle.pbuf_spans.specs.Shares.{handed, first_of, second_of, first_held, second_held, as_shared, MayShare, AllShared, OwnersShared}
-use Rattle.pbuf_spans.proofs.Spans.{length-parts_of, length-bare, lens_text, joined_text, rows_in-parts_of, weight_in-parts_of, least_adds-parts_of, owners_held, owners_bare, shared_parts, shared_owners}
+use Rattle.pbuf_spans.proofs.Spans.{lens_text, joined_text, rows_in-parts_of, weight_in-parts_of, least_adds-parts_of, owners_held, owners_bare, shared_parts, shared_owners}
 use Rattle.pbuf_spans.proofs.Owning.{sum_by-map}
 
 length-range : (xs : List ℕ) (from to : ℕ) → from ≤ to → to ≤ length xs → length (slice_range xs from to) ≡ to - from

@@ -6,7 +6,7 @@ use Rattle.atomic_table.specs.Seated.{TableId}
 use Rattle.pbuf_seats.specs.Seats.{SeatSeen}
 use Rattle.pbuf_spans.specs.Parts.{Part, IsChain}
 use Rattle.lw_pbuf.specs.Chains.{ChainSeen, all_parts, NoneEmpty}
-use Rattle.pbuf_spans.specs.Shares.{MayShare, AllShared}
+use Rattle.pbuf_spans.specs.Shares.{MayShare}
 use Rattle.lw_pbuf.proofs.Sharing.{may_front, may_behind, whole_share, is_shared_to}
 use Rattle.lw_pbuf.proofs.chain.Chain.share_all.Goals as goal
 

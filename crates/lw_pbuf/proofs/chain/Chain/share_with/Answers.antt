@@ -2,10 +2,8 @@ use Rattle.std.proofs.Common.{rules, ◌≡◌, ◌-◌, ◌++◌, length, ap, s
 use Rattle.std.specs.Prelude.{vec_capacity}
 use Rattle.std.specs.Arc.{arc_value}
 use Rattle.atomic_table.specs.Seated.{TableId}
-use Rattle.pbuf_seats.specs.Seats.{SeatSeen}
 use Rattle.pbuf_spans.specs.Parts.{IsChain}
 use Rattle.lw_pbuf.specs.Chains.{ChainSeen, all_parts, NoneEmpty}
-use Rattle.pbuf_spans.specs.Shares.{AllShared}
 use Rattle.lw_pbuf.proofs.Sharing.{alone_share, is_shared_to}
 use Rattle.lw_pbuf.proofs.chain.Chain.share_with.Goals as goal
 
