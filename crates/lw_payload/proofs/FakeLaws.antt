@@ -4,9 +4,9 @@ use Rattle.std.proofs.lemmas.List.Sums.{sum_by-cons, sum_by-le-sum_by}
 use Rattle.std.proofs.lemmas.Bool.Decides.{nat_tests}
 use Rattle.lw_payload.specs.declared.kinds.Kind.{Kind}
 use Rattle.lw_payload.specs.declared.kinds.Kind.TheVariants.{Ram, Pool, Rom, Ref}
-use Rattle.lw_payload.specs.Views.{Slot, free_of, total_of}
-use Rattle.lw_payload.specs.Fake.{number_of, same_kind, times, free_count, counted_rows, held_rows, family_of, Moves}
-use Rattle.lw_payload.proofs.RowLaws.{sum_of_nothing, sum_of_both, sum_by_places}
+use Rattle.lw_payload.specs.Views.{Slot, free_of, used_of}
+use Rattle.lw_payload.specs.Fake.{number_of, same_kind, times, free_count, counted_rows, held_rows, family_of, Hands}
+use Rattle.lw_payload.proofs.RowLaws.{sum_of_nothing, sum_of_both, sum_by_places, used_of-rows}
 
 -- two kinds with one number are one kind
 pub same_kind_true : (a b : Kind) → same_kind a b ≡ true → a ≡ b
@@ -33,7 +33,7 @@ both_chosen true w x y z e = e
 both_chosen false w x y z e = refl
 
 -- what moves in the counts moves in the rows
-pub rows_moved : (before after given taken : List ℕ) (a b : Kind) → number_of a ≡ number_of b → Moves before after given taken → (s : Slot) → counted_rows b after s + held_rows a given s ≡ counted_rows b before s + held_rows a taken s
+pub rows_moved : (before after given taken : List ℕ) (a b : Kind) → number_of a ≡ number_of b → Hands before after given taken → (s : Slot) → counted_rows b after s + held_rows a given s ≡ counted_rows b before s + held_rows a taken s
 rows_moved before after given taken a b e moves s =
     rw e (both_chosen (eqb (number_of s.kind) (number_of b)) (get_or after s.place 0) (times s.place given) (get_or before s.place 0) (times s.place taken) (moves.each s.place))
 
@@ -74,7 +74,7 @@ once_in_range x a (suc n) =
     at_most_once x a rest later none = grind (arith, nat_tests)
 
 -- the places in a list are as many as the list is long, or fewer
-sum_of_times : (places : List ℕ) (n : ℕ) → sum_by (λ i. times i places) (range_with_len 0 n) ≤ length places
+pub sum_of_times : (places : List ℕ) (n : ℕ) → sum_by (λ i. times i places) (range_with_len 0 n) ≤ length places
 sum_of_times [] n = let e = sum_of_nothing (λ (i : ℕ). times i []) (λ i. refl) (range_with_len 0 n) in omega arith
 sum_of_times (x ∷ xs) n =
     let both = sum_of_both (λ i. cond {A = ℕ} (eqb x i) 1 0) (λ i. times i xs) (λ i. times i (x ∷ xs)) (λ i. sum_by-cons (λ p. cond {A = ℕ} (eqb p i) 1 0) x xs) (range_with_len 0 n) in
@@ -82,9 +82,10 @@ sum_of_times (x ∷ xs) n =
     let rest = sum_of_times xs n in
     omega arith
 
--- the rows of a payload are no more than its places
-pub total_of-held : (places : List ℕ) (kept kind : Kind) (n : ℕ) → total_of (held_rows kept places) kind n ≤ length places
-total_of-held places kept kind n =
+-- the slots of a payload are no more than its places
+pub used_of-held : (places : List ℕ) (kept kind : Kind) (n : ℕ) → used_of (held_rows kept places) kind n ≤ length places
+used_of-held places kept kind n =
+    let rows = used_of-rows (held_rows kept places) kind n in
     let less = sum_by-le-sum_by (λ i. held_rows kept places (record { kind = kind; place = i })) (λ i. times i places) (range_with_len 0 n) (λ i. chosen_less (eqb (number_of kind) (number_of kept)) (times i places)) in
     let most = sum_of_times places n in
     omega arith

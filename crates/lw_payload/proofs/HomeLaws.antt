@@ -34,12 +34,12 @@ IsOf-shared h k p q o of shared =
       record {
         short = let e = ap length shared.octets in let small = of.short in omega arith;
         family = shared.family ∙ of.family ∙ sym family;
-        listed = λ s. let r = shared.rows s in let own = shared.own_rows s in let l = of.listed s in omega arith;
+        listed = λ s. let r = shared.rows s in let l = of.listed s in omega arith;
       },
       record {
         short = let e = ap length shared.other_octets in let small = of.short in omega arith;
         family = shared.other_family ∙ of.family ∙ sym family;
-        listed = λ s. let r = shared.rows s in omega arith;
+        listed = λ s. let r = shared.rows s in let l = of.listed s in omega arith;
       },
     )
 

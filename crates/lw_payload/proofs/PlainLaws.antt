@@ -14,11 +14,15 @@ plain_made kind text octets room e = record {
   family = refl;
   rows = λ s. refl;
   kept = λ s more. absurd (omega arith);
+  alone = λ s more. absurd (omega arith);
   few = λ n. no_rows_few kind n (pbufs_of kind (length text));
+  free = tt;
   weighs = refl;
   weight = refl;
   made_least = omega arith;
   made_most = omega arith;
+  made = λ some. cc;
+  asks = λ some. cc;
   refused = refl;
   last_refused = refl;
 }

@@ -36,6 +36,7 @@ abbrev pub one_kept : List ℕ → Kind → ℕ → ℕ → Pools
 one_kept family kept size longest = record {
   family = family;
   makes = λ _. true;
+  places = λ kind. if same_kind kind kept then Some size else None;
   size = λ kind. if same_kind kind kept then Some size else None;
   longest = λ _. Some longest;
   weighs = λ _ _. 0;
@@ -46,6 +47,6 @@ abbrev pub family_of : ℕ → Kind → List ℕ
 family_of number kept = number ∷ number_of kept ∷ []
 
 -- counts before and after: at each place as many owners went as stand in `given`, and as many came as stand in `taken`
-pub record Moves (before after given taken : List ℕ) : Type 0 where
+pub record Hands (before after given taken : List ℕ) : Type 0 where
   pub same : length after ≡ length before
   pub each : (place : ℕ) → slice_index after place + times place given ≡ slice_index before place + times place taken

@@ -3,3 +3,4 @@ pub mod Calls
 pub mod Lists
 pub mod Fake
 pub mod FakeViews
+pub mod Totals

@@ -1,16 +1,17 @@
-use Rattle.std.specs.Prelude.{◌≡◌, ℕ, ◌+◌, ◌/◌, ◌^◌, ◌<◌, ◌≤◌, ◌==◌, Bool, true, List, [], length, min, Option, None, IsSomeAnd}
-use Rattle.std.specs.List.{count_by, sum_by, range_with_len}
+use Rattle.std.specs.Prelude.{◌≡◌, ℕ, ◌+◌, ◌/◌, ◌^◌, ◌<◌, ◌≤◌, ◌==◌, Bool, true, not, List, [], length, min, Option, None, IsSomeAnd}
+use Rattle.std.specs.List.{count_by, range_with_len}
 use Rattle.lw_payload.specs.declared.kinds.Kind.{Kind}
 use Rattle.lw_payload.specs.declared.kinds.Kind.TheVariants.{Ram, Pool, Rom, Ref}
 
--- one pbuf of a kept kind: its kind, and its place among the pbufs of that kind
+-- one pbuf of a kept kind: its kind, and its place among the pbufs of that kind. It has rows, which are shared out among
+-- its owners: who has a row of it is an owner, and it is free while none is out
 pub record Slot : Type 0 where
   pub kind : Kind
   pub place : ℕ
 
 -- what contracts see of a payload: its octets; in how many parts they stand; for how many parts of others it has room;
--- how often it can surely be shared; whether it is as it was made; how many rows (owners) it has at each slot; what its
--- pbufs weigh, where proofs weigh them; and its family, the pools that it is of
+-- how often it can surely be shared; whether it is as it was made; how many rows it has of each slot; what its pbufs
+-- weigh, where proofs weigh them; and its family, the pools that it is of
 pub record View : Type 0 where
   pub octets : List ℕ
   pub parts : ℕ
@@ -21,11 +22,13 @@ pub record View : Type 0 where
   pub weight : ℕ
   pub family : List ℕ
 
--- what no call changes in a Home: its family; which kinds it makes; how many pbufs it has of each kind that it keeps the
--- counts of; how many octets a payload of a kind has at most, where that is bounded; and what one of a length weighs
+-- what no call changes in a Home: its family; which kinds it makes; how many pbufs there are of a kind, where they are
+-- numbered, whoever keeps their counts; how many it has of each kind that it keeps the counts of itself; how many octets a
+-- payload of a kind has at most, where that is bounded; and what one of a length weighs
 pub record Pools : Type 0 where
   pub family : List ℕ
   pub makes : Kind → Bool
+  pub places : Kind → Option ℕ
   pub size : Kind → Option ℕ
   pub longest : Kind → Option ℕ
   pub weighs : Kind → ℕ → ℕ
@@ -38,7 +41,7 @@ pub record Makes : Type 0 where
   pub last_refused : ℕ
   pub asked : ℕ
 
--- what contracts see of a Home: what stays; how many rows it gave out at each slot; its weight; and its counts
+-- what contracts see of a Home: what stays; how many rows it gave out of each slot; its weight; and its counts
 pub record HomeView : Type 0 where
   pub pools : Pools
   pub rows : Slot → ℕ
@@ -63,9 +66,9 @@ pool_one Ref = 0
 abbrev pub free_of : (Slot → ℕ) → Kind → ℕ → ℕ
 free_of rows kind n = count_by (λ i. rows (record { kind = kind; place = i }) == 0) (range_with_len 0 n)
 
--- how many rows there are at the first n slots of a kind
-abbrev pub total_of : (Slot → ℕ) → Kind → ℕ → ℕ
-total_of rows kind n = sum_by (λ i. rows (record { kind = kind; place = i })) (range_with_len 0 n)
+-- how many of the first n slots of a kind have a row
+abbrev pub used_of : (Slot → ℕ) → Kind → ℕ → ℕ
+used_of rows kind n = count_by (λ i. not (rows (record { kind = kind; place = i }) == 0)) (range_with_len 0 n)
 
 -- the kind is kept, and fewer of its pbufs have no row than n octets take
 abbrev pub IsShort : HomeView → Kind → ℕ → Type 0
@@ -101,7 +104,7 @@ plain_view octets room = record {
 
 -- the pools of payloads that nobody counts: each kind is made, none is kept, and nothing weighs anything
 abbrev pub plain_pools : Pools
-plain_pools = record { family = []; makes = λ _. true; size = λ _. None; longest = λ _. None; weighs = λ _ _. 0 }
+plain_pools = record { family = []; makes = λ _. true; places = λ _. None; size = λ _. None; longest = λ _. None; weighs = λ _ _. 0 }
 
 -- the Home of payloads that nobody counts
 abbrev pub plain_home : HomeView

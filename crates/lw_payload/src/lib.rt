@@ -7,11 +7,9 @@ mod kinds;
 mod lists;
 mod octet_vec;
 mod payload;
-#[cfg(test)]
-mod tests;
 
 pub use copies::octets_of;
 pub use kinds::{Kind, MakeFault, ShareFault};
-pub use lists::spend_all;
+pub use lists::{spend, spend_all, spend_if};
 pub use payload::Payload;
 pub use std::alloc::AllocError as NoMemory;

@@ -1,4 +1,4 @@
-ghost use Rattle.std.specs.Prelude.{◌≡◌, ℕ, ◌+◌, ◌-◌, ◌^◌, ◌<◌, ◌≤◌, ◌++◌, length, take, drop, slice_range, true, IsTrue, IsOk, IsSome, IfOk, OnOk, OnErr};
+ghost use Rattle.std.specs.Prelude.{◌≡◌, ℕ, ◌+◌, ◌-◌, ◌^◌, ◌<◌, ◌≤◌, ◌↔◌, ◌++◌, length, take, drop, slice_range, true, IsTrue, IsOk, IsSome, IfOk, OnOk, OnErr};
 ghost use Rattle.lw_payload.specs.declared.kinds.Kind.{Kind};
 ghost use Rattle.lw_payload.specs.Views.{View, HomeView, IsOf, IsShort, IsTooLong};
 ghost use Rattle.lw_payload.specs.Calls.{IsMade, IsRefused, KeepsHome, IsCut, IsSameButRoom, IsJoined, IsShared, IsSpent};
@@ -105,12 +105,11 @@ pub trait Payload: Drop + Sized {
         requires short { length (seen self.old).octets + length (seen other).octets < 2 ^ 32 }
         ensures { IsJoined (seen self.old) (seen other) (seen self.new) };
 
-    /// A payload of the same octets, of which both are owners.
+    /// A payload of the same octets, of which both are owners. `TooMany` is looked at first.
     fn share(&mut self, home: &mut Self::Home) -> Result<Self, ShareFault>
         requires { IsOf (home_seen home.old) (seen self.old) }
         ensures shared { IfOk result (λ other. IsShared (home_seen home.old) (home_seen home.new) (seen self.old) (seen self.new) (seen other)) }
-        ensures had_one { IsOk result → 0 < (seen self.old).shares }
-        ensures too_many { result ≡ Err ShareFault.TooMany → (seen self.old).shares ≡ 0 }
+        ensures too_many { (result ≡ Err ShareFault.TooMany) ↔ ((seen self.old).shares ≡ 0) }
         ensures err { OnErr result ((seen self.new ≡ seen self.old) × (home_seen home.new ≡ home_seen home.old)) };
 
     /// Gives the payload up, and answers how many pbufs ended by it. Takes no memory.

@@ -1,6 +1,7 @@
 -- What the calls of chains say of them as payloads.
-use Rattle.std.proofs.Common.{◌≡◌, ℕ, ◌+◌, ◌-◌, ◌≤◌, Bool, true, false, cond, eqb, ◌&&◌, min, List, [], ◌∷◌, ◌++◌, length, map, refl, sym, ap, ◌∙◌, arith, length-append, eqb-true, eq-eqb}
-use Rattle.std.specs.List.{range_with_len}
+use Rattle.std.proofs.Common.{◌≡◌, ℕ, ◌+◌, ◌-◌, ◌<◌, ◌≤◌, ⊎_elim, subst, Bool, true, false, cond, eqb, ◌&&◌, min, List, [], ◌∷◌, ◌++◌, length, map, refl, sym, ap, ◌∙◌, arith, length-append, eqb-true, eq-eqb}
+use Rattle.std.specs.Prelude.{◌↔◌}
+use Rattle.std.proofs.lemmas.Bool.{cases_lt}
 use Rattle.std.proofs.lemmas.List.{length-map}
 use Rattle.std.proofs.lemmas.List.Sums.{sum_by-append}
 use Rattle.std.proofs.Common.{Result, Ok, Err}
@@ -9,17 +10,16 @@ use Rattle.atomic_table.specs.Seated.{TableId}
 use Rattle.lw_payload.specs.declared.kinds.Kind.{Kind}
 use Rattle.lw_payload.specs.declared.kinds.Kind.TheVariants.{Ram, Pool, Rom, Ref}
 use Rattle.lw_payload.specs.declared.kinds.ShareFault.{ShareFault}
-use Rattle.lw_payload.specs.Views.{Slot, total_of}
+use Rattle.lw_payload.specs.Views.{Slot, HomeView, used_of}
 use Rattle.lw_payload.specs.Views as views
 use Rattle.lw_payload.specs.Calls.{IsCut, IsSameButRoom, IsJoined, IsShared}
 use Rattle.lw_payload.specs.Calls as calls
-use Rattle.lw_payload.proofs.RowLaws.{total_of-plus, total_of-le, sum_of_nothing}
-use Rattle.lw_payload.proofs.FakeLaws.{total_of-held}
+use Rattle.lw_payload.proofs.RowLaws.{used_of-plus, used_of-le, no_rows_few}
+use Rattle.lw_payload.proofs.FakeLaws.{used_of-held}
 use Rattle.lw_payload.specs.Fake.{held_rows}
-use Rattle.pbuf_counts.specs.Holders.{Known}
 use Rattle.pbuf_seats.specs.declared.owner.Owner.{Owner}
 use Rattle.pbuf_seats.specs.declared.owner.Owner.TheVariants.{Kept, Counted}
-use Rattle.pbuf_seats.specs.Kept.{row_at, number_of}
+use Rattle.pbuf_seats.specs.Kept.{rows_at, number_of}
 use Rattle.pbuf_seats.specs.Owners.{row_of, weight_of, adds_of, sharing, share_of}
 use Rattle.pbuf_seats.specs.Seats.{SeatSeen}
 use Rattle.pbuf_spans.specs.Parts.{Part, joined, rows_in, weight_in, least_adds, all_own, IsSpent, IsSameSeat}
@@ -29,7 +29,6 @@ use Rattle.pbuf_spans.specs.Shares.{handed, first_of, second_of}
 use Rattle.lw_pbuf.specs.Shares.{IsSharedTo}
 use Rattle.lw_pbuf.specs.Homes.{family_of, pools_of, home_of, payload_of}
 use Rattle.pbuf_spans.proofs.Lists.{rows_in-cons, joined-append}
-use Rattle.pbuf_spans.proofs.Owning.{sum_by-map}
 
 -- equal families are of equal tables
 pub same_table : (t u : TableId) → family_of t ≡ family_of u → t ≡ u
@@ -54,30 +53,30 @@ same_pools h k same = λ i. pools_of (same.table i) (same.sizes Ram i) (same.siz
 pub same_counts : (h k : SeatSeen) → k.makes ≡ h.makes → (home_of k).counts ≡ (home_of h).counts
 same_counts h k same = λ i. record { made = (same i).made; refused = (same i).refused; last_refused = (same i).last_refused; asked = (same i).asked }
 
--- one row is at one place at most
-one_row : (kind at : Kind) (place n : ℕ) → total_of (row_at kind place) at n ≤ 1
-one_row kind at place n =
-    let less = total_of-le (row_at kind place) (held_rows kind (place ∷ [])) at n (λ s. each (eqb (number_of s.kind) (number_of kind)) (eqb s.place place) (eqb place s.place) (λ e. eq-eqb place s.place (sym (eqb-true s.place place e)))) in
-    let most = total_of-held (place ∷ []) kind at n in
+-- the rows of one pbuf are of one slot
+one_slot : (kind at : Kind) (place m n : ℕ) → used_of (rows_at kind place m) at n ≤ 1
+one_slot kind at place m n =
+    let less = used_of-le (rows_at kind place m) (held_rows kind (place ∷ [])) at n (λ s. each (eqb (number_of s.kind) (number_of kind)) (eqb s.place place) (eqb place s.place) (λ e. eq-eqb place s.place (sym (eqb-true s.place place e)))) in
+    let most = used_of-held (place ∷ []) kind at n in
     omega arith
   where
-    each : (t u v : Bool) → (u ≡ true → v ≡ true) → cond {A = ℕ} (t && u) 1 0 ≤ cond {A = ℕ} t (0 + cond {A = ℕ} v 1 0) 0
-    each false u v same = omega arith
-    each true false v same = omega arith
-    each true true true same = omega arith
-    each true true false same = absurd (let e = same refl in cc)
+    each : (t u v : Bool) → (u ≡ true → v ≡ true) → 0 < cond {A = ℕ} (t && u) m 0 → 0 < cond {A = ℕ} t (0 + cond {A = ℕ} v 1 0) 0
+    each false u v same some = absurd (omega arith)
+    each true false v same some = absurd (omega arith)
+    each true true true same some = omega arith
+    each true true false same some = absurd (let e = same refl in cc)
 
-owner_rows : (o : Owner) (kind : Kind) (n : ℕ) → total_of (row_of o) kind n ≤ 1
-owner_rows (Kept r) kind n = one_row r.kind kind r.place n
-owner_rows (Counted h) kind n = let e = sum_of_nothing (λ (i : ℕ). 0) (λ i. refl) (range_with_len 0 n) in omega arith
+owner_slots : (o : Owner) (kind : Kind) (n : ℕ) → used_of (row_of o) kind n ≤ 1
+owner_slots (Kept r) kind n = one_slot r.kind kind r.place (r.adds + 1) n
+owner_slots (Counted h) kind n = no_rows_few kind n 1
 
--- the rows of a chain are no more than its pbufs
-pub few_rows : (ps : List Part) (kind : Kind) (n : ℕ) → total_of (rows_in ps) kind n ≤ length ps
-few_rows [] kind n = let e = sum_of_nothing (λ (i : ℕ). 0) (λ i. refl) (range_with_len 0 n) in omega arith
-few_rows (p ∷ ps) kind n =
-    let both = total_of-plus (row_of p.owner) (rows_in ps) (rows_in (p ∷ ps)) kind n (λ s. rows_in-cons p ps s) in
-    let one = owner_rows p.owner kind n in
-    let rest = few_rows ps kind n in
+-- the slots of a chain are no more than its pbufs
+pub few_slots : (ps : List Part) (kind : Kind) (n : ℕ) → used_of (rows_in ps) kind n ≤ length ps
+few_slots [] kind n = no_rows_few kind n 0
+few_slots (p ∷ ps) kind n =
+    let both = used_of-plus (row_of p.owner) (rows_in ps) (rows_in (p ∷ ps)) kind n (λ s. rows_in-cons p ps s) in
+    let one = owner_slots p.owner kind n in
+    let rest = few_slots ps kind n in
     omega arith
 
 -- a cut, as the payload's
@@ -89,7 +88,7 @@ is_cut h k p q rest cut octets few room of after = record {
   shares = cut.adds;
   family = ap family_of (after.table ∙ (cut.same.table ∙ sym of.table));
   fewer = cut.fewer;
-  few = λ kind n. let a = few_rows q.parts kind n in let b = ap length octets in omega arith;
+  few = λ kind n. let a = few_slots q.parts kind n in let b = ap length octets in omega arith;
   rows = cut.rows;
   weight = cut.weight;
   pools = same_pools h k cut.same;
@@ -125,13 +124,40 @@ is_joined p o q parts table room = record {
 }
 
 -- owners that are shared are of the same pbufs
-first_rows : (n : ℕ) (o : Owner) (s : Slot) → row_of (sharing n o) s ≡ row_of o s
-first_rows n (Kept r) s = refl
-first_rows n (Counted h) s = refl
+chosen_some : (b : Bool) (m n : ℕ) → 0 < n → 0 < cond {A = ℕ} b m 0 → 0 < cond {A = ℕ} b n 0
+chosen_some true m n some more = some
+chosen_some false m n some more = more
 
-second_rows : (n : ℕ) (o : Owner) (s : Slot) → row_of (share_of n o) s ≡ row_of o s
-second_rows n (Kept r) s = refl
-second_rows n (Counted h) s = refl
+first_some : (n : ℕ) (o : Owner) (s : Slot) → (0 < row_of (sharing n o) s) ↔ (0 < row_of o s)
+first_some n (Kept r) s =
+    let b = eqb (number_of s.kind) (number_of r.kind) && eqb s.place r.place in (
+      chosen_some b (r.adds - (n + 1) + 1) (r.adds + 1) (omega arith),
+      chosen_some b (r.adds + 1) (r.adds - (n + 1) + 1) (omega arith),
+    )
+first_some n (Counted h) s = (λ x. x, λ x. x)
+
+second_some : (n : ℕ) (o : Owner) (s : Slot) → (0 < row_of (share_of n o) s) ↔ (0 < row_of o s)
+second_some n (Kept r) s =
+    let b = eqb (number_of s.kind) (number_of r.kind) && eqb s.place r.place in (
+      chosen_some b (n + 1) (r.adds + 1) (omega arith),
+      chosen_some b (r.adds + 1) (n + 1) (omega arith),
+    )
+second_some n (Counted h) s = (λ x. x, λ x. x)
+
+sum_some : (a b x y : ℕ) → (0 < a → 0 < x) → (0 < b → 0 < y) → 0 < a + b → 0 < x + y
+sum_some a b x y f g some = ⊎_elim (λ more. let u = f more in omega arith) (λ none. let u = g (omega arith) in omega arith) (cases_lt 0 a)
+
+-- so the chains' rows are of the same slots
+rows_some : (f : Part → Part) (ps : List Part) (s : Slot) → ((p : Part) → (0 < row_of (f p).owner s) ↔ (0 < row_of p.owner s)) → (0 < rows_in (map f ps) s) ↔ (0 < rows_in ps s)
+rows_some f [] s each = (λ x. x, λ x. x)
+rows_some f (p ∷ ps) s each =
+    let a = rows_in-cons (f p) (map f ps) s in
+    let b = rows_in-cons p ps s in
+    let one = each p in
+    let rest = rows_some f ps s each in (
+      λ some. let u = sum_some (row_of (f p).owner s) (rows_in (map f ps) s) (row_of p.owner s) (rows_in ps s) one.0 rest.0 (omega arith) in omega arith,
+      λ some. let u = sum_some (row_of p.owner s) (rows_in ps s) (row_of (f p).owner s) (rows_in (map f ps) s) one.1 rest.1 (omega arith) in omega arith,
+    )
 
 pub joined_firsts : (hands : Bool) (ps : List Part) → joined (map (first_of hands) ps) ≡ joined ps
 joined_firsts hands [] = refl
@@ -140,12 +166,6 @@ joined_firsts hands (p ∷ ps) = ap (λ (l : List ℕ). p.octets ++ l) (joined_f
 pub joined_seconds : (hands : Bool) (ps : List Part) → joined (map (second_of hands) ps) ≡ joined ps
 joined_seconds hands [] = refl
 joined_seconds hands (p ∷ ps) = ap (λ (l : List ℕ). p.octets ++ l) (joined_seconds hands ps)
-
-pub rows_firsts : (hands : Bool) (ps : List Part) (s : Slot) → rows_in (map (first_of hands) ps) s ≡ rows_in ps s
-rows_firsts hands ps s = sum_by-map (λ (p : Part). row_of p.owner s) (first_of hands) (λ (p : Part). row_of p.owner s) (λ p. first_rows (handed hands (adds_of p.owner)) p.owner s) ps
-
-pub rows_seconds : (hands : Bool) (ps : List Part) (s : Slot) → rows_in (map (second_of hands) ps) s ≡ rows_in ps s
-rows_seconds hands ps s = sum_by-map (λ (p : Part). row_of p.owner s) (second_of hands) (λ (p : Part). row_of p.owner s) (λ p. second_rows (handed hands (adds_of p.owner)) p.owner s) ps
 
 first_adds_left : (o : Owner) → adds_of (sharing 0 o) ≡ adds_of o - (0 + 1)
 first_adds_left (Kept r) = refl
@@ -156,32 +176,34 @@ least_firsts [] = omega arith
 least_firsts (p ∷ ps) = let r = least_firsts ps in let e = first_adds_left p.owner in omega arith
 
 -- a share, as the payload's
-pub is_shared : (h k : SeatSeen) (p q o : ChainSeen) → IsSharedTo false h k p q o → IsShared (home_of h) (home_of k) (payload_of p) (payload_of q) (payload_of o)
-is_shared h k p q o s = record {
-  octets = ap joined s.first ∙ joined_firsts false p.parts;
-  parts = ap length s.first ∙ length-map p.parts (first_of false);
-  room = let r = s.room in omega arith;
-  shares = let l = least_firsts p.parts in let e = ap least_adds s.first in omega arith;
-  own_rows = λ t. ap (λ (l : List Part). rows_in l t) s.first ∙ rows_firsts false p.parts t;
-  family = ap family_of s.first_table;
-  other_octets = ap joined s.second ∙ joined_seconds false p.parts;
-  other_parts = ap length s.second ∙ length-map p.parts (second_of false);
-  other_rows = λ t. ap (λ (l : List Part). rows_in l t) s.second ∙ rows_seconds false p.parts t;
-  other_family = ap family_of s.second_table;
-  rows = s.rows;
-  weight = let w = s.weight in let e = ap (λ (x : Known). x.weight) s.holder in omega arith;
-  pools = same_pools h k s.same;
-  counts = same_counts h k s.same.makes;
-}
+pub is_shared : (h k : SeatSeen) (p q o : ChainSeen) → k ≡ h → IsSharedTo false p q o → IsShared (home_of h) (home_of k) (payload_of p) (payload_of q) (payload_of o)
+is_shared h k p q o same s =
+    let seat = ap home_of same in
+    record {
+      octets = ap joined s.first ∙ joined_firsts false p.parts;
+      parts = ap length s.first ∙ length-map p.parts (first_of false);
+      room = let r = s.room in omega arith;
+      shares = let l = least_firsts p.parts in let e = ap least_adds s.first in omega arith;
+      own_slots = λ t. subst (λ (l : List Part). (0 < rows_in l t) ↔ (0 < rows_in p.parts t)) (sym s.first) (rows_some (first_of false) p.parts t (λ x. first_some (handed false (adds_of x.owner)) x.owner t));
+      family = ap family_of s.first_table;
+      other_octets = ap joined s.second ∙ joined_seconds false p.parts;
+      other_parts = ap length s.second ∙ length-map p.parts (second_of false);
+      other_slots = λ t. subst (λ (l : List Part). (0 < rows_in l t) ↔ (0 < rows_in p.parts t)) (sym s.second) (rows_some (second_of false) p.parts t (λ x. second_some (handed false (adds_of x.owner)) x.owner t));
+      other_family = ap family_of s.second_table;
+      rows = λ t. let r = s.rows t in let e = ap (λ (x : HomeView). x.rows t) seat in omega arith;
+      weight = let w = s.weight in let e = ap (λ (x : HomeView). x.weight) seat in omega arith;
+      pools = ap (λ (x : HomeView). x.pools) seat;
+      counts = ap (λ (x : HomeView). x.counts) seat;
+    }
 
 -- a chain that was given up, as the payload's
 pub is_spent : (h k : SeatSeen) (c : ChainSeen) → IsSpent h k c.parts → calls.IsSpent (home_of h) (home_of k) (payload_of c)
 is_spent h k c spent = record { rows = spent.rows; weight = spent.weight; pools = same_pools h k spent.same; counts = same_counts h k spent.same.makes }
 
-pub shared_ok : (h k : SeatSeen) (p q : ChainSeen) (r : Result ChainSeen ShareFault) → IfOk r (λ o. IsSharedTo false h k p q o) → IfOk r (λ o. IsShared (home_of h) (home_of k) (payload_of p) (payload_of q) (payload_of o))
-shared_ok h k p q (Ok o) s = is_shared h k p q o s
-shared_ok h k p q (Err f) s = tt
+pub shared_ok : (h k : SeatSeen) (p q : ChainSeen) (r : Result ChainSeen ShareFault) → k ≡ h → IfOk r (λ o. IsSharedTo false p q o) → IfOk r (λ o. IsShared (home_of h) (home_of k) (payload_of p) (payload_of q) (payload_of o))
+shared_ok h k p q (Ok o) same s = is_shared h k p q o same s
+shared_ok h k p q (Err f) same s = tt
 
-pub shared_err : (h k : SeatSeen) (p q : ChainSeen) (r : Result ChainSeen ShareFault) → OnErr r ((q ≡ p) × (k ≡ h)) → OnErr r ((payload_of q ≡ payload_of p) × (home_of k ≡ home_of h))
-shared_err h k p q (Ok o) s = tt
-shared_err h k p q (Err f) s = (ap payload_of s.0, ap home_of s.1)
+pub shared_err : (h k : SeatSeen) (p q : ChainSeen) (r : Result ChainSeen ShareFault) → k ≡ h → OnErr r (q ≡ p) → OnErr r ((payload_of q ≡ payload_of p) × (home_of k ≡ home_of h))
+shared_err h k p q (Ok o) same s = tt
+shared_err h k p q (Err f) same s = (ap payload_of s, ap home_of same)

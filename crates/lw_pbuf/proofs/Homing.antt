@@ -1,13 +1,13 @@
 -- What is true of a seat and a chain is true of them as a Home and a payload.
 use Rattle.std.proofs.Common.{◌≡◌, ℕ, ◌+◌, ◌*◌, ◌<◌, ◌≤◌, Bool, true, false, cond, ◌&&◌, eqb, eqb-true, List, [], ◌∷◌, length, get_or, All, Some, None, refl, sym, ap, ◌∙◌, arith}
-use Rattle.std.specs.Option.{IsSome, IsSomeAnd}
+use Rattle.std.specs.Option.{IsSome, IsSomeAnd, IfSome}
 use Rattle.std.specs.Prelude.{◌||◌, not}
 use Rattle.std.proofs.lemmas.Bool.{false≢true}
 use Rattle.std.proofs.lemmas.List.Elements.{All-head, All-tail}
 use Rattle.lw_payload.specs.declared.kinds.Kind.{Kind}
 use Rattle.lw_payload.specs.declared.kinds.Kind.TheVariants.{Ram, Pool, Rom, Ref}
 use Rattle.lw_payload.specs.Views.{Slot, IsShort, IsTooLong, free_of, pbufs_of, pool_one}
-use Rattle.lw_payload.specs.Calls.{IsMade, IsRefused, KeepsHome, last_of}
+use Rattle.lw_payload.specs.Calls.{IsMade, IsRefused, KeepsHome, last_of, asked_after}
 use Rattle.lw_payload.proofs.RowLaws.{sum_by_places}
 use Rattle.pbuf_counts.specs.Owners.{claim_weight, first_adds}
 use Rattle.pbuf_seats.specs.declared.makes.Makes.{Makes}
@@ -16,11 +16,11 @@ use Rattle.pbuf_seats.specs.Owners.{adds_of}
 use Rattle.pbuf_seats.specs.Seats.{SeatSeen}
 use Rattle.pbuf_spans.specs.Parts.{Part, rows_in, least_adds}
 use Rattle.lw_pbuf.specs.Chains.{ChainSeen}
-use Rattle.lw_pbuf.specs.Takes.{is_counted, free_in}
+use Rattle.lw_pbuf.specs.Takes.{is_counted, places_of, free_in}
 use Rattle.lw_pbuf.specs.Makes.{longest_of, claims_for, granted_of, denied_of, IsAlloc, IsDenied, KeepsSeat}
-use Rattle.lw_pbuf.specs.Homes.{family_of, of_kinds, weighs_in, pools_of, home_of, payload_of}
+use Rattle.lw_pbuf.specs.Homes.{family_of, of_kinds, pool_places, weighs_in, pools_of, home_of, payload_of}
 use Rattle.lw_payload.proofs.CountLaws.{place_within}
-use Rattle.lw_pbuf.proofs.Homes.{few_rows}
+use Rattle.lw_pbuf.proofs.Homes.{few_slots}
 
 claims_here : (b r c : Bool) (rights : ℕ) → eqb rights 1 ≡ r → (not b || r) && c ≡ true → b ≡ true → rights ≡ 1
 claims_here true true c rights e makes counted = eqb-true rights 1 e
@@ -169,6 +169,36 @@ kept_some h k kind s ps rows some is same =
     let z = sizes_are h kind in
     omega arith
 
+size_if : (b : Bool) (n : ℕ) (P : ℕ → Type 0) → (b ≡ false → P n) → IfSome (cond b None (Some n)) P
+size_if false n P holds = holds refl
+size_if true n P holds = tt
+
+granted_made : (kind : Kind) (n : ℕ) (m : Makes) → (granted_of kind n m).made ≡ m.made + pool_one kind
+granted_made Ram n m = omega arith
+granted_made Pool n m = omega arith
+granted_made Rom n m = omega arith
+granted_made Ref n m = omega arith
+
+-- the count of the pbufs of POOL asked for
+granted_asked : (kind : Kind) (n : ℕ) (m : Makes) → (granted_of kind n m).asked ≡ asked_after kind n m.asked
+granted_asked Ram n m = refl
+granted_asked Pool n m = refl
+granted_asked Rom n m = refl
+granted_asked Ref n m = refl
+
+denied_asked : (kind : Kind) (n : ℕ) (m : Makes) → (denied_of kind n m).asked ≡ asked_after kind n m.asked
+denied_asked Ram n m = refl
+denied_asked Pool n m = refl
+denied_asked Rom n m = refl
+denied_asked Ref n m = refl
+
+-- there are as many places as the seat can take pbufs of POOL from
+pool_there : (h : SeatSeen) (kind : Kind) → kind ≡ Pool → of_kinds (length h.kept.ram.items) (pool_places h.holder.table (length h.kept.pool.items)) (length h.kept.rom.items) (length h.kept.reference.items) kind ≡ places_of h kind
+pool_there h Ram is = absurd (let e = is in cc)
+pool_there h Pool is = refl
+pool_there h Rom is = absurd (let e = is in cc)
+pool_there h Ref is = absurd (let e = is in cc)
+
 -- a chain that was made is a payload that was made
 pub made_law : (h k : SeatSeen) (kind : Kind) (text : List ℕ) (c : ChainSeen) → IsAlloc h k kind text c → KeepsSeat h k kind (length text) → IsMade (home_of h) (home_of k) kind text (payload_of c)
 made_law h k kind text c a keeps =
@@ -181,11 +211,21 @@ made_law h k kind text c a keeps =
       family = ap family_of a.table;
       rows = a.rows;
       kept = λ s some. let q = a.kept s some in (q.0, size_kept (eqb (sizes h kind) 0) (sizes h kind) (above (eqb (sizes h kind) 0) (sizes h kind) refl (kept_some h k kind s c.parts (a.rows s) some q.0 keeps.sizes)));
-      few = λ m. let t = few_rows c.parts kind m in let p = a.parts in omega arith;
+      alone = a.alone;
+      free = size_if (eqb (sizes h kind) 0) (sizes h kind) (λ n. free_of (rows_of k.kept) kind n + pbufs_of kind (length text) ≡ free_of (rows_of h.kept) kind n) (λ kept.
+          let f = a.free (off_here h kind kept) in
+          let before = free_slots h kind in
+          let after = free_slots k kind in
+          let size = ap (free_of (rows_of h.kept) kind) (sizes_are h kind) in
+          let same = ap (free_of (rows_of k.kept) kind) (sizes_are h kind ∙ sym (keeps.sizes kind)) in
+          omega arith);
+      few = λ m. let t = few_slots c.parts kind m in let p = a.parts in omega arith;
       weighs = a.weighs ∙ weighs_same h kind (length text);
       weight = a.weight;
       made_least = let e = counts (λ x. x.made) in let g = granted_least kind (length text) h.makes in omega arith;
       made_most = let e = counts (λ x. x.made) in let g = granted_most kind (length text) h.makes in omega arith;
+      made = λ _. counts (λ x. x.made) ∙ granted_made kind (length text) h.makes;
+      asks = λ _. counts (λ x. x.asked) ∙ granted_asked kind (length text) h.makes;
       refused = counts (λ x. x.refused) ∙ granted_refused kind (length text) h.makes;
       last_refused = counts (λ x. x.last_refused) ∙ granted_last kind (length text) h.makes;
     }
@@ -198,6 +238,8 @@ denied_law h k kind n d = record {
   made = ap (λ (x : Makes). x.made) d.makes ∙ denied_made kind n h.makes;
   refused = ap (λ (x : Makes). x.refused) d.makes ∙ denied_refused kind n h.makes;
   last_refused = ap (λ (x : Makes). x.last_refused) d.makes ∙ denied_last kind n h.makes;
+  asks = λ _. ap (λ (x : Makes). x.asked) d.makes ∙ denied_asked kind n h.makes;
+  asked = λ pool. let a = d.asked pool in let p = pool_there h kind pool in omega arith;
 }
 
 -- what every call keeps

@@ -1,5 +1,7 @@
 -- Chains that are made, or refused.
-use Rattle.std.proofs.Common.{◌≡◌, ℕ, ◌+◌, ◌*◌, ◌<◌, ◌≤◌, Bool, true, false, cond, List, ◌++◌, length, refl, sym, ap, ◌∙◌, arith, length-append}
+use Rattle.std.proofs.Common.{◌≡◌, ℕ, suc, ◌+◌, ◌-◌, ◌*◌, ◌^◌, ◌<◌, ◌≤◌, Bool, true, false, cond, List, ◌++◌, length, refl, sym, ap, ◌∙◌, subst, arith, length-append}
+use mathlib.Core.Logic.{dite}
+use native.Mathlib.Decide.{dec_le}
 use Rattle.std.proofs.Common.{Result, Ok, Err}
 use Rattle.std.specs.Result.{IfErr}
 use Rattle.lw_pbuf.specs.declared.make.AllocFault.{AllocFault}
@@ -8,16 +10,18 @@ use Rattle.std.proofs.lemmas.List.Elements.{All-same}
 use Rattle.lw_payload.specs.declared.kinds.Kind.{Kind}
 use Rattle.lw_payload.specs.declared.kinds.Kind.TheVariants.{Ram, Pool, Rom, Ref}
 use Rattle.lw_payload.specs.Views.{pbufs_of, pool_one}
-use Rattle.pbuf_counts.specs.Owners.{claim_weight, first_adds}
+use Rattle.pbuf_counts.specs.Owners.{claim_weight, first_adds, times}
+use Rattle.pbuf_counts.specs.Holders.{Known}
+use Rattle.pbuf_seats.specs.declared.kept.Kept.{Kept}
 use Rattle.pbuf_seats.specs.declared.makes.Makes.{Makes}
-use Rattle.pbuf_seats.specs.Kept.{counts_of, rows_of}
+use Rattle.pbuf_seats.specs.Kept.{counts_of, rows_of, free_count}
 use Rattle.pbuf_seats.specs.Owners.{adds_of}
 use Rattle.pbuf_seats.specs.Seats.{SeatSeen}
 use Rattle.pbuf_spans.specs.Parts.{Part, joined, all_own, rows_in, weight_in, IsSpent, GivesBack}
 use Rattle.lw_pbuf.specs.Chains.{ChainSeen, IsOf}
-use Rattle.lw_pbuf.specs.Takes.{claims_in, is_counted, AreTaken, AllTried}
+use Rattle.lw_pbuf.specs.Takes.{claims_in, is_counted, places_of, free_in, AreTaken, AllTried}
 use Rattle.lw_pbuf.specs.Makes.{granted_of, denied_of, IsAlloc, IsDenied, KeepsSeat}
-use Rattle.lw_pbuf.proofs.Tried.{kept_full, counted_full}
+use Rattle.lw_pbuf.proofs.Tried.{kept_full, counted_full, claimed_there, places_law}
 use Rattle.lw_pbuf.proofs.Taken.{counted_same}
 
 -- a chain that fits has few pbufs
@@ -35,9 +39,9 @@ weighs_all h k kind ps n false a parts e = let q = a.kept e in (let w = q.1 in o
 -- where the claims of a make are counted
 claimed_back : (h k l : SeatSeen) (kind : Kind) (ps : List Part) → AreTaken h k kind ps → (kind ≡ Pool → h.claimed ≡ 0) → (kind ≡ Pool → l.claimed ≡ 0) → ((kind ≡ Pool → ⊥) → l.claimed ≡ k.claimed) → l.claimed ≡ h.claimed
 claimed_back h k l Pool ps a before settled other = settled refl ∙ sym (before refl)
-claimed_back h k l Ram ps a before settled other = let o = other (λ e. cc) in let g = a.gives.claimed in let z = (a.kept refl).0 in omega arith
-claimed_back h k l Rom ps a before settled other = let o = other (λ e. cc) in let g = a.gives.claimed in let z = (a.kept refl).0 in omega arith
-claimed_back h k l Ref ps a before settled other = let o = other (λ e. cc) in let g = a.gives.claimed in let z = (a.kept refl).0 in omega arith
+claimed_back h k l Ram ps a before settled other = let o = other (λ e. cc) in let g = a.claimed in omega arith
+claimed_back h k l Rom ps a before settled other = let o = other (λ e. cc) in let g = a.claimed in omega arith
+claimed_back h k l Ref ps a before settled other = let o = other (λ e. cc) in let g = a.claimed in omega arith
 
 asked_granted : (kind : Kind) (n : ℕ) (m : Makes) → (granted_of kind n m).asked ≤ m.asked + pool_one kind * pbufs_of kind n
 asked_granted Ram n m = omega arith
@@ -68,6 +72,8 @@ module _ (h k l : SeatSeen) (kind : Kind) (ps : List Part) (a : AreTaken h k kin
         table = table;
         rows = λ s. let m = g.more s in let e = ap (λ (x : SeatSeen). rows_of x.kept s) same in let r = ap (λ (x : List Part). rows_in x s) is in omega arith;
         kept = λ s some. a.rows s (let r = ap (λ (x : List Part). rows_in x s) is in omega arith);
+        alone = λ s some. a.alone s (let r = ap (λ (x : List Part). rows_in x s) is in omega arith);
+        free = λ off. let q = (a.kept off).2 in let e = ap (λ (x : SeatSeen). free_in x kind) same in omega arith;
         weighs = ap weight_in is ∙ w.0;
         weight = let m = g.less in let e = ap (λ (x : SeatSeen). x.holder.weight) same in let r = ap weight_in is in omega arith;
         claims = let m = g.got in let e = ap (λ (x : SeatSeen). length x.holder.got) same in let z = w.1 in omega arith;
@@ -92,38 +98,64 @@ module _ (h k l : SeatSeen) (kind : Kind) (ps : List Part) (a : AreTaken h k kin
     asked_most = let m = ap (λ (x : Makes). x.asked) a.gives.makes in let e = ap (λ (x : Makes). x.asked) makes in let b = asked_granted kind n k.makes in omega arith;
   }
 
--- the pbufs of a chain that isn't made went back
-module _ (h k l m : SeatSeen) (kind : Kind) (ps : List Part) (n : ℕ) (a : AreTaken h k kind ps) (spent : IsSpent k l ps) (same : m ≡ counted_as l m) where
-  pub alloc_denied : AllTried h k kind → GivesBack k.holder l.holder → length ps < pbufs_of kind n → m.makes ≡ denied_of kind n l.makes → IsDenied h m kind n
-  alloc_denied tried back few makes =
+-- a refusal comes where more pbufs of POOL were asked for than there are
+asked_above : (h k l : SeatSeen) (kind : Kind) (b : Bool) → is_counted h kind ≡ b → AllTried h k kind → is_counted k kind ≡ is_counted h kind → ((j : Kind) → length (counts_of j k.kept) ≡ length (counts_of j h.kept)) → l.holder ≡ k.holder → l.kept ≡ k.kept
+    → (l.makes.asked < 2 ^ 64 - 1 → length l.holder.got < l.makes.asked) → (l.makes.asked < 2 ^ 64 - 1 → length l.kept.pool.items < free_count l.kept.pool.items + l.makes.asked) → kind ≡ Pool → places_of h kind < 2 ^ 32 → places_of h kind < l.makes.asked
+asked_above h k l kind true on tried counted sizes holder kept claims pool is small =
+    let words : places_of h kind ≡ h.holder.table.words = ap (λ (b : Bool). cond b h.holder.table.words (length (counts_of kind h.kept))) on in
+    let all = places_law h.holder.table.words k.holder.got (λ place within. claimed_there h.holder k.holder tried.got tried.misses place tried.claims (counted_full h k kind tried on counted place within)) in
+    let got = ap (λ (x : Known). length x.got) holder in
+    dite (dec_le (suc l.makes.asked) (2 ^ 64 - 1)) (λ below. let c = claims below in omega arith) (λ full. omega arith)
+asked_above h k l kind false off tried counted sizes holder kept claims pool is small =
+    let places : places_of h kind ≡ length (counts_of kind h.kept) = ap (λ (b : Bool). cond b h.holder.table.words (length (counts_of kind h.kept))) off in
+    let full = kept_full h k kind tried off counted (sizes kind) in
+    let none : free_count k.kept.pool.items ≡ 0 = subst (λ (x : Kind). free_count (counts_of x k.kept) ≡ 0) is full in
+    let size : length k.kept.pool.items ≡ length (counts_of kind h.kept) = subst (λ (x : Kind). length k.kept.pool.items ≡ length (counts_of x h.kept)) (sym is) (sizes Pool) in
+    let same = ap (λ (x : Kept). length x.pool.items) kept in
+    let free = ap (λ (x : Kept). free_count x.pool.items) kept in
+    dite (dec_le (suc l.makes.asked) (2 ^ 64 - 1)) (λ below. let c = pool below in omega arith) (λ all. omega arith)
+
+-- a make was refused and counted, and then its pbufs went back
+module _ (h k l m : SeatSeen) (kind : Kind) (ps : List Part) (n : ℕ) (a : AreTaken h k kind ps) (same : l ≡ counted_as k l) (spent : IsSpent l m ps) where
+  pub alloc_denied : AllTried h k kind → GivesBack l.holder m.holder → length ps < pbufs_of kind n → l.makes ≡ denied_of kind n k.makes
+      → (kind ≡ Pool → l.makes.asked < 2 ^ 64 - 1 → length l.holder.got < l.makes.asked) → (kind ≡ Pool → l.makes.asked < 2 ^ 64 - 1 → length l.kept.pool.items < free_count l.kept.pool.items + l.makes.asked) → places_of h kind < 2 ^ 32 → IsDenied h m kind n
+  alloc_denied tried back few makes claims pool small =
       let g = a.gives in
       let counted = counted_same h k kind g.sizes in
+      let holder = ap (λ (x : SeatSeen). x.holder) same in
+      let kept = ap (λ (x : SeatSeen). x.kept) same in
+      let gets = back.gets ∙ (ap (λ (x : Known). x.got) holder ∙ tried.claims.gets) in
       record {
-        rows = λ s. let x = g.more s in let y = spent.rows s in let e = ap (λ (x : SeatSeen). rows_of x.kept s) same in omega arith;
-        weight = let x = g.less in let y = spent.weight in let e = ap (λ (x : SeatSeen). x.holder.weight) same in omega arith;
-        makes = makes ∙ ap (denied_of kind n) (spent.same.makes ∙ g.makes);
+        rows = λ s. let x = g.more s in let y = spent.rows s in let e = ap (λ (x : Kept). rows_of x s) kept in omega arith;
+        weight = let x = g.less in let y = spent.weight in let e = ap (λ (x : Known). x.weight) holder in omega arith;
+        makes = spent.same.makes ∙ (makes ∙ ap (denied_of kind n) g.makes);
         short = λ off. let full = kept_full h k kind tried off counted (g.sizes kind) in let q = (a.kept off).2 in omega arith;
+        asked = λ is. let above = asked_above h k l kind (is_counted h kind) refl tried counted g.sizes holder kept (claims is) (pool is) is small in let e = ap (λ (x : Makes). x.asked) spent.same.makes in omega arith;
         exhausted = λ on. record {
           got = tried.got;
           misses = tried.misses;
           later = back.later;
-          gets = ap (λ (x : SeatSeen). x.holder.got) same ∙ (back.gets ∙ tried.claims.gets);
-          finds = ap (λ (x : SeatSeen). x.holder.found) same ∙ (back.finds ∙ ap (λ (x : List (ℕ × ℕ)). back.later ++ x) tried.claims.finds);
+          gets = gets;
+          finds = back.finds ∙ ap (λ (x : List (ℕ × ℕ)). back.later ++ x) (ap (λ (x : Known). x.found) holder ∙ tried.claims.finds);
           in_use = tried.claims.in_use;
           each = counted_full h k kind tried on counted;
+          covered = λ place within.
+              let there = claimed_there h.holder k.holder tried.got tried.misses place tried.claims (counted_full h k kind tried on counted place within) in
+              let e = ap (λ (x : List ℕ). times place x) (back.gets ∙ ap (λ (x : Known). x.got) holder) in
+              omega arith;
           few = let q = (a.counted on).0 in let x = g.got in let e = ap (λ (x : List ℕ). length x) tried.claims.gets in let b = length-append tried.got h.holder.got in omega arith;
         };
       }
 
-  pub denied_keeps : (kind ≡ Pool → h.claimed ≡ 0) → (kind ≡ Pool → m.claimed ≡ 0) → ((kind ≡ Pool → ⊥) → m.claimed ≡ l.claimed) → l.makes.asked ≤ m.makes.asked → m.makes ≡ denied_of kind n l.makes → KeepsSeat h m kind n
+  pub denied_keeps : (kind ≡ Pool → h.claimed ≡ 0) → (kind ≡ Pool → l.claimed ≡ 0) → ((kind ≡ Pool → ⊥) → l.claimed ≡ k.claimed) → k.makes.asked ≤ l.makes.asked → l.makes ≡ denied_of kind n k.makes → KeepsSeat h m kind n
   denied_keeps before settled other grows makes = record {
-    table = ap (λ (x : SeatSeen). x.holder.table) same ∙ (spent.same.table ∙ a.gives.table);
-    right = ap (λ (x : SeatSeen). x.holder.rights) same ∙ (spent.same.right ∙ a.gives.right);
-    sizes = λ j. ap (λ (x : SeatSeen). length (counts_of j x.kept)) same ∙ (spent.same.sizes j ∙ a.gives.sizes j);
-    splits = ap (λ (x : SeatSeen). x.splits) same ∙ (spent.same.splits ∙ a.gives.splits);
-    claimed = claimed_back h k m kind ps a before settled (λ e. other e ∙ spent.same.claimed);
-    asked_least = let q = ap (λ (x : Makes). x.asked) (spent.same.makes ∙ a.gives.makes) in omega arith;
-    asked_most = let q = ap (λ (x : Makes). x.asked) (spent.same.makes ∙ a.gives.makes) in let e = ap (λ (x : Makes). x.asked) makes in let b = asked_denied kind n l.makes in omega arith;
+    table = spent.same.table ∙ (ap (λ (x : SeatSeen). x.holder.table) same ∙ a.gives.table);
+    right = spent.same.right ∙ (ap (λ (x : SeatSeen). x.holder.rights) same ∙ a.gives.right);
+    sizes = λ j. spent.same.sizes j ∙ (ap (λ (x : SeatSeen). length (counts_of j x.kept)) same ∙ a.gives.sizes j);
+    splits = spent.same.splits ∙ (ap (λ (x : SeatSeen). x.splits) same ∙ a.gives.splits);
+    claimed = spent.same.claimed ∙ claimed_back h k l kind ps a before settled other;
+    asked_least = let q = ap (λ (x : Makes). x.asked) a.gives.makes in let e = ap (λ (x : Makes). x.asked) spent.same.makes in omega arith;
+    asked_most = let q = ap (λ (x : Makes). x.asked) a.gives.makes in let d = ap (λ (x : Makes). x.asked) spent.same.makes in let e = ap (λ (x : Makes). x.asked) makes in let b = asked_denied kind n k.makes in omega arith;
   }
 
 -- a seat that stays keeps what it has

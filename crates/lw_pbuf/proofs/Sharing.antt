@@ -1,5 +1,5 @@
 -- How a chain is shared.
-use Rattle.std.proofs.Common.{◌≡◌, ℕ, ◌+◌, ◌-◌, ◌<◌, ◌≤◌, Bool, true, false, ◌&&◌, min, cond, eqb, List, [], ◌∷◌, ◌++◌, length, map, set, take, drop, get_or, All, refl, sym, ap, ◌∙◌, subst, arith, length-append, length-set, length-drop}
+use Rattle.std.proofs.Common.{◌≡◌, ℕ, ◌+◌, ◌-◌, ◌<◌, ◌≤◌, Bool, false, min, List, [], ◌∷◌, ◌++◌, length, map, set, take, drop, get_or, All, refl, sym, ap, ◌∙◌, subst, arith, length-set, length-drop}
 use Rattle.std.proofs.Common.{Result, Ok, Err}
 use Rattle.std.specs.List.{AllZip, refill}
 use Rattle.std.specs.Result.{IfOk, OnOk}
@@ -9,23 +9,19 @@ use Rattle.std.proofs.lemmas.List.Elements.{All-append, All-push, All-map, All-w
 use Rattle.std.proofs.lemmas.List.Sums.{sum_by-append}
 use Rattle.atomic_table.specs.Seated.{TableId}
 use Rattle.lw_payload.specs.declared.kinds.ShareFault.{ShareFault}
-use Rattle.lw_payload.specs.Views.{Slot}
 use Rattle.pbuf_counts.specs.Holders.{Known, owner_of}
 use Rattle.pbuf_seats.specs.declared.owner.Owner.{Owner}
 use Rattle.pbuf_seats.specs.declared.owner.Owner.TheVariants.{Kept, Counted}
-use Rattle.pbuf_seats.specs.Kept.{rows_of, number_of}
-use Rattle.pbuf_seats.specs.Owners.{row_of, weight_of, adds_of, slot_of, sharing, share_of, HasRoom}
+use Rattle.pbuf_seats.specs.Owners.{row_of, weight_of, adds_of, sharing, share_of}
 use Rattle.pbuf_seats.specs.Seats.{SeatSeen}
 use Rattle.pbuf_spans.specs.declared.twin.Twin.{Twin}
-use Rattle.pbuf_spans.specs.Parts.{Part, rows_in, weight_in, least_adds, IsUnder, IsChain, IsSpent}
+use Rattle.pbuf_spans.specs.Parts.{Part, rows_in, weight_in, least_adds, IsUnder, IsChain}
 use Rattle.lw_pbuf.specs.Chains.{ChainSeen, all_parts, NoneEmpty, IsOf}
 use Rattle.pbuf_spans.specs.Shares.{handed, first_of, second_of, MayShare, AllShared, IsTwin}
 use Rattle.lw_pbuf.specs.Shares.{IsSharedTo, IsChained}
-use Rattle.pbuf_spans.proofs.Lists.{rows_in-cons}
 use Rattle.lw_pbuf.proofs.Spans.{rows_in-append, weight_in-append, least_adds-append, All-split, all_parts-append, all_parts-here, all_parts-more, all_parts-push}
-use Rattle.pbuf_spans.proofs.Owning.{same_seat, same_then}
 use Rattle.lw_pbuf.proofs.Rewriting.{refilled}
-use Rattle.lw_pbuf.proofs.Homes.{joined_firsts, joined_seconds, rows_firsts, rows_seconds}
+use Rattle.lw_pbuf.proofs.Homes.{joined_firsts, joined_seconds}
 
 -- the least of the adds, one span on
 pub least_here : (spans : List (List Part)) (i : ℕ) (ps : List Part) → i < length spans → ps ≡ get_or spans i ps → least_adds (all_parts (drop i spans)) ≡ min (least_adds ps) (least_adds (all_parts (drop (i + 1) spans)))
@@ -38,63 +34,34 @@ least_end spans i past = ap (λ (l : List (List Part)). least_adds (all_parts l)
 pub all_more : (P : Part → Type 0) (spans : List (List Part)) (i : ℕ) (ps : List Part) → i < length spans → ps ≡ get_or spans i ps → All P (all_parts (take i spans)) → All P ps → All P (all_parts (take (i + 1) spans))
 all_more P spans i ps inside is before here = subst (λ (l : List Part). All P l) (sym (all_parts-more spans i ps inside is)) (All-append P (all_parts (take i spans)) ps before here)
 
--- a row is one at most
-row_most : (o : Owner) (s : Slot) → row_of o s ≤ 1
-row_most (Kept r) s = here (eqb (number_of s.kind) (number_of r.kind) && eqb s.place r.place)
-  where
-    here : (b : Bool) → cond {A = ℕ} b 1 0 ≤ 1
-    here true = omega arith
-    here false = omega arith
-row_most (Counted h) s = omega arith
-
-rows_most : (ps : List Part) (s : Slot) → rows_in ps s ≤ length ps
-rows_most [] s = omega arith
-rows_most (p ∷ ps) s = let a = rows_in-cons p ps s in let b = row_most p.owner s in let r = rows_most ps s in omega arith
-
--- there is room in the counts that the owners ask for
-room_moves : (n m : ℕ) (h k : SeatSeen) (o : Owner) → HasRoom n h o → ((s : Slot) → rows_of k.kept s + m ≤ rows_of h.kept s + n) → HasRoom m k o
-room_moves n m h k (Kept r) room more = let a = more (slot_of r) in omega arith
-room_moves n m h k (Counted c) room more = tt
-
 -- Two lists of pbufs of which the owners may be shared
 
 pub may_front : (h : SeatSeen) (ps qs : List Part) → MayShare h (ps ++ qs) → MayShare h ps
 may_front h ps qs may =
-    let n = length-append ps qs in
     record {
       under = (All-split (λ (p : Part). IsUnder h.holder.table p.owner) ps qs may.under).0;
       listed = λ s. let e = rows_in-append ps qs s in let l = may.listed s in omega arith;
       adds = let e = least_adds-append ps qs in let a = may.adds in omega arith;
-      rooms = All-weaker (λ (p : Part). HasRoom (length (ps ++ qs)) h p.owner) (λ (p : Part). HasRoom (length ps) h p.owner) (λ p room. room_moves (length (ps ++ qs)) (length ps) h h p.owner room (λ s. omega arith)) ps
-          (All-split (λ (p : Part). HasRoom (length (ps ++ qs)) h p.owner) ps qs may.rooms).0;
     }
 
--- those behind may be shared still, once those in front were
-pub may_behind : (hands : Bool) (h k : SeatSeen) (ps qs firsts seconds : List Part) → MayShare h (ps ++ qs) → AllShared hands h k ps firsts seconds → MayShare k qs
-may_behind hands h k ps qs firsts seconds may shared =
-    let n = length-append ps qs in
-    let m = ap (λ (l : List Part). length l) shared.second ∙ length-map ps (second_of hands) in
+pub may_behind : (h : SeatSeen) (ps qs : List Part) → MayShare h (ps ++ qs) → MayShare h qs
+may_behind h ps qs may =
     record {
-      under = subst (λ (t : TableId). All (λ p. IsUnder t p.owner) qs) (sym shared.same.table) (All-split (λ (p : Part). IsUnder h.holder.table p.owner) ps qs may.under).1;
-      listed = λ s. let e = rows_in-append ps qs s in let l = may.listed s in let r = shared.rows s in omega arith;
+      under = (All-split (λ (p : Part). IsUnder h.holder.table p.owner) ps qs may.under).1;
+      listed = λ s. let e = rows_in-append ps qs s in let l = may.listed s in omega arith;
       adds = let e = least_adds-append ps qs in let a = may.adds in omega arith;
-      rooms = All-weaker (λ (p : Part). HasRoom (length (ps ++ qs)) h p.owner) (λ (p : Part). HasRoom (length qs) k p.owner)
-          (λ p room. room_moves (length (ps ++ qs)) (length qs) h k p.owner room (λ s. let r = shared.rows s in let b = rows_most seconds s in omega arith)) qs
-          (All-split (λ (p : Part). HasRoom (length (ps ++ qs)) h p.owner) ps qs may.rooms).1;
     }
 
-pub shared_none : (hands : Bool) (h : SeatSeen) → AllShared hands h h [] [] []
-shared_none hands h = record { first = refl; second = refl; rows = λ s. omega arith; weight = refl; holder = refl; same = same_seat h }
+pub shared_none : (hands : Bool) → AllShared hands [] [] []
+shared_none hands = record { first = refl; second = refl; rows = λ s. refl; weight = refl }
 
 -- pbufs that were shared, and then others
-pub shared_both : (hands : Bool) (h k l : SeatSeen) (ps qs ms ps' qs' ms' : List Part) → AllShared hands h k ps qs ms → AllShared hands k l ps' qs' ms' → AllShared hands h l (ps ++ ps') (qs ++ qs') (ms ++ ms')
-shared_both hands h k l ps qs ms ps' qs' ms' a b = record {
+pub shared_both : (hands : Bool) (ps qs ms ps' qs' ms' : List Part) → AllShared hands ps qs ms → AllShared hands ps' qs' ms' → AllShared hands (ps ++ ps') (qs ++ qs') (ms ++ ms')
+shared_both hands ps qs ms ps' qs' ms' a b = record {
   first = (λ i. a.first i ++ b.first i) ∙ sym (map-append (first_of hands) ps ps');
   second = (λ i. a.second i ++ b.second i) ∙ sym (map-append (second_of hands) ps ps');
-  rows = λ s. let x = a.rows s in let y = b.rows s in let e = rows_in-append ms ms' s in omega arith;
+  rows = λ s. let x = a.rows s in let y = b.rows s in let e = rows_in-append ps ps' s in let f = rows_in-append qs qs' s in let g = rows_in-append ms ms' s in omega arith;
   weight = let x = a.weight in let y = b.weight in let e = weight_in-append ps ps' in let f = weight_in-append qs qs' in let g = weight_in-append ms ms' in omega arith;
-  holder = b.holder ∙ a.holder;
-  same = same_then h k l a.same b.same;
 }
 
 -- Spans that are shared one after another
@@ -121,9 +88,9 @@ twins_count [] (y ∷ ys) zip = absurd zip
 twins_count (x ∷ xs) [] zip = absurd zip
 twins_count (x ∷ xs) (y ∷ ys) zip = let r = twins_count xs ys zip.1 in omega arith
 
--- of the spans, which are `firsts` now, those below i were shared, and `seconds` are their shares; the seat h is k now; `twins` is memory for the others
-pub record Spanned (hands : Bool) (h k : SeatSeen) (spans firsts seconds : List (List Part)) (twins : List Twin) (i : ℕ) : Type 0 where
-  pub shared : AllShared hands h k (all_parts (take i spans)) (all_parts (take i firsts)) (all_parts seconds)
+-- of the spans, which are `firsts` now, those below i were shared, and `seconds` are their shares; `twins` is memory for the others
+pub record Spanned (hands : Bool) (spans firsts seconds : List (List Part)) (twins : List Twin) (i : ℕ) : Type 0 where
+  pub shared : AllShared hands (all_parts (take i spans)) (all_parts (take i firsts)) (all_parts seconds)
   pub behind : drop i firsts ≡ drop i spans
   pub twins_left : AllZip IsTwin (drop i spans) twins
   pub count : length firsts ≡ length spans
@@ -140,9 +107,9 @@ read_left xs ys i p same is = is ∙ (back ys ∙ (ap (λ (l : List (List Part))
 next_left : (xs ys : List (List Part)) (i : ℕ) → drop i ys ≡ drop i xs → drop (i + 1) ys ≡ drop (i + 1) xs
 next_left xs ys i same = sym (drop-drop 1 i ys) ∙ (ap (drop 1) same ∙ drop-drop 1 i xs)
 
-pub spanned_first : (hands : Bool) (h : SeatSeen) (spans seconds : List (List Part)) (twins : List Twin) → AllZip IsTwin spans twins → seconds ≡ [] → Spanned hands h h spans spans seconds twins 0
-spanned_first hands h spans seconds twins zip none = subst (λ (l : List (List Part)). Spanned hands h h spans spans l twins 0) (sym none) record {
-  shared = shared_none hands h;
+pub spanned_first : (hands : Bool) (spans seconds : List (List Part)) (twins : List Twin) → AllZip IsTwin spans twins → seconds ≡ [] → Spanned hands spans spans seconds twins 0
+spanned_first hands spans seconds twins zip none = subst (λ (l : List (List Part)). Spanned hands spans spans l twins 0) (sym none) record {
+  shared = shared_none hands;
   behind = refl;
   twins_left = zip;
   count = refl;
@@ -150,7 +117,7 @@ spanned_first hands h spans seconds twins zip none = subst (λ (l : List (List P
   full = λ _. (All-nil (λ (q : List Part). 0 < length q), All-nil (λ (q : List Part). 0 < length q));
 }
 
-module _ (hands : Bool) (h k : SeatSeen) (spans firsts seconds : List (List Part)) (twins rest : List Twin) (twin : Twin) (i : ℕ) (a : Spanned hands h k spans firsts seconds twins i) (left : twins ≡ twin ∷ rest) where
+module _ (hands : Bool) (spans firsts seconds : List (List Part)) (twins rest : List Twin) (twin : Twin) (i : ℕ) (a : Spanned hands spans firsts seconds twins i) (left : twins ≡ twin ∷ rest) where
   pub spanned_inside : i < length firsts
   spanned_inside =
       let n = twins_count (drop i spans) twins a.twins_left in
@@ -167,13 +134,13 @@ module _ (hands : Bool) (h k : SeatSeen) (spans firsts seconds : List (List Part
     within = let c = a.count in let n = spanned_inside in omega arith
 
     -- the span there may be shared
-    pub spanned_may : MayShare h (all_parts spans) → MayShare k p
-    spanned_may may =
+    pub spanned_may : (h : SeatSeen) → MayShare h (all_parts spans) → MayShare h p
+    spanned_may h may =
         let split : all_parts spans ≡ all_parts (take i spans) ++ (p ++ all_parts (drop (i + 1) spans)) =
         ap (λ (l : List (List Part)). all_parts l) (sym (take-append-drop i spans))
         ∙ (all_parts-append (take i spans) (drop i spans) ∙ ap (λ (l : List Part). all_parts (take i spans) ++ l) (all_parts-here spans i p within at)) in
-        may_front k p (all_parts (drop (i + 1) spans))
-        (may_behind hands h k (all_parts (take i spans)) (p ++ all_parts (drop (i + 1) spans)) (all_parts (take i firsts)) (all_parts seconds) (subst (λ (l : List Part). MayShare h l) split may) a.shared)
+        may_front h p (all_parts (drop (i + 1) spans))
+        (may_behind h (all_parts (take i spans)) (p ++ all_parts (drop (i + 1) spans)) (subst (λ (l : List Part). MayShare h l) split may))
 
     pub spanned_twin : IsTwin p twin
     spanned_twin = zip.0
@@ -182,20 +149,20 @@ module _ (hands : Bool) (h k : SeatSeen) (spans firsts seconds : List (List Part
         zip = subst (λ (l : List Twin). AllZip IsTwin (p ∷ drop (i + 1) spans) l) left
             (subst (λ (l : List (List Part)). AllZip IsTwin l twins) (drop_more spans i p within ∙ ap (λ (q : List Part). q ∷ drop (i + 1) spans) (sym at)) a.twins_left)
 
-    pub spanned_next : (l : SeatSeen) (q s : List Part) (firsts' seconds' : List (List Part)) → AllShared hands k l p q s → firsts' ≡ set firsts i q → seconds' ≡ seconds ++ s ∷ [] → Spanned hands h l spans firsts' seconds' rest (i + 1)
-    spanned_next l q s firsts' seconds' shared now more =
+    pub spanned_next : (q s : List Part) (firsts' seconds' : List (List Part)) → AllShared hands p q s → firsts' ≡ set firsts i q → seconds' ≡ seconds ++ s ∷ [] → Spanned hands spans firsts' seconds' rest (i + 1)
+    spanned_next q s firsts' seconds' shared now more =
         let inside = spanned_inside in
         let count = a.count in
         let front : take (i + 1) (set firsts i q) ≡ take i firsts ++ q ∷ [] = take_more_set firsts i q inside in
         let zip : AllZip IsTwin (p ∷ drop (i + 1) spans) (twin ∷ rest) = subst (λ (x : List Twin). AllZip IsTwin (p ∷ drop (i + 1) spans) x) left
         (subst (λ (x : List (List Part)). AllZip IsTwin x twins) (drop_more spans i p within ∙ ap (λ (y : List Part). y ∷ drop (i + 1) spans) (sym at)) a.twins_left) in
-        let both = shared_both hands h k l (all_parts (take i spans)) (all_parts (take i firsts)) (all_parts seconds) p q s a.shared shared in
+        let both = shared_both hands (all_parts (take i spans)) (all_parts (take i firsts)) (all_parts seconds) p q s a.shared shared in
         let m = ap (λ (x : List Part). length x) shared.first ∙ length-map p (first_of hands) in
         let n = ap (λ (x : List Part). length x) shared.second ∙ length-map p (second_of hands) in
-        subst (λ (x : List (List Part)). Spanned hands h l spans x seconds' rest (i + 1)) (sym now) (subst (λ (x : List (List Part)). Spanned hands h l spans (set firsts i q) x rest (i + 1)) (sym more) record {
-          shared = subst (λ (x : List Part). AllShared hands h l x (all_parts (take (i + 1) (set firsts i q))) (all_parts (seconds ++ s ∷ []))) (sym (all_parts-more spans i p within at))
-              (subst (λ (x : List Part). AllShared hands h l (all_parts (take i spans) ++ p) x (all_parts (seconds ++ s ∷ []))) (sym (ap (λ (x : List (List Part)). all_parts x) front ∙ all_parts-push (take i firsts) q))
-              (subst (λ (x : List Part). AllShared hands h l (all_parts (take i spans) ++ p) (all_parts (take i firsts) ++ q) x) (sym (all_parts-push seconds s)) both));
+        subst (λ (x : List (List Part)). Spanned hands spans x seconds' rest (i + 1)) (sym now) (subst (λ (x : List (List Part)). Spanned hands spans (set firsts i q) x rest (i + 1)) (sym more) record {
+          shared = subst (λ (x : List Part). AllShared hands x (all_parts (take (i + 1) (set firsts i q))) (all_parts (seconds ++ s ∷ []))) (sym (all_parts-more spans i p within at))
+              (subst (λ (x : List Part). AllShared hands (all_parts (take i spans) ++ p) x (all_parts (seconds ++ s ∷ []))) (sym (ap (λ (x : List (List Part)). all_parts x) front ∙ all_parts-push (take i firsts) q))
+              (subst (λ (x : List Part). AllShared hands (all_parts (take i spans) ++ p) (all_parts (take i firsts) ++ q) x) (sym (all_parts-push seconds s)) both));
           behind = drop-set-lt (i + 1) firsts i q (omega arith) ∙ next_left spans firsts i a.behind;
           twins_left = zip.1;
           count = length-set firsts i q ∙ count;
@@ -209,7 +176,7 @@ module _ (hands : Bool) (h k : SeatSeen) (spans firsts seconds : List (List Part
         })
 
 -- all spans were shared
-module _ (hands : Bool) (h k : SeatSeen) (spans firsts seconds : List (List Part)) (twins : List Twin) (i : ℕ) (a : Spanned hands h k spans firsts seconds twins i) (none : length twins ≡ 0) where
+module _ (hands : Bool) (spans firsts seconds : List (List Part)) (twins : List Twin) (i : ℕ) (a : Spanned hands spans firsts seconds twins i) (none : length twins ≡ 0) where
   past : length spans ≤ i
   past =
       let n = twins_count (drop i spans) twins a.twins_left in
@@ -219,10 +186,10 @@ module _ (hands : Bool) (h k : SeatSeen) (spans firsts seconds : List (List Part
   all_firsts : take i firsts ≡ firsts
   all_firsts = take_all i firsts (let c = a.count in let p = past in omega arith)
 
-  pub spanned_last : AllShared hands h k (all_parts spans) (all_parts firsts) (all_parts seconds)
+  pub spanned_last : AllShared hands (all_parts spans) (all_parts firsts) (all_parts seconds)
   spanned_last =
-      subst (λ (l : List (List Part)). AllShared hands h k (all_parts l) (all_parts firsts) (all_parts seconds)) (take_all i spans past)
-      (subst (λ (l : List (List Part)). AllShared hands h k (all_parts (take i spans)) (all_parts l) (all_parts seconds)) all_firsts a.shared)
+      subst (λ (l : List (List Part)). AllShared hands (all_parts l) (all_parts firsts) (all_parts seconds)) (take_all i spans past)
+      (subst (λ (l : List (List Part)). AllShared hands (all_parts (take i spans)) (all_parts l) (all_parts seconds)) all_firsts a.shared)
 
   pub spanned_full : NoneEmpty spans → NoneEmpty firsts × NoneEmpty seconds
   spanned_full some = let b = a.full some in (subst (λ (l : List (List Part)). NoneEmpty l) all_firsts b.0, b.1)
@@ -252,110 +219,93 @@ seconds_chain hands t ps chain = record {
 }
 
 -- the pbufs of both chains after a share
-module _ (hands : Bool) (h k : SeatSeen) (t : TableId) (ps qs ms : List Part) (chain : IsChain t ps) (shared : AllShared hands h k ps qs ms) where
+module _ (hands : Bool) (t : TableId) (ps qs ms : List Part) (chain : IsChain t ps) (shared : AllShared hands ps qs ms) where
   pub first_chain : IsChain t qs
   first_chain = subst (λ (l : List Part). IsChain t l) (sym shared.first) (firsts_chain hands t ps chain)
 
   pub second_chain : IsChain t ms
   second_chain = subst (λ (l : List Part). IsChain t l) (sym shared.second) (seconds_chain hands t ps chain)
 
-pub is_shared_to : (hands : Bool) (h k : SeatSeen) (p q o : ChainSeen) (ps : List Part) → ps ≡ p.parts → AllShared hands h k ps q.parts o.parts → q.table ≡ p.table → o.table ≡ p.table → q.room ≡ p.room → IsSharedTo hands h k p q o
-is_shared_to hands h k p q o ps parts shared first second room = record {
+pub is_shared_to : (hands : Bool) (p q o : ChainSeen) (ps : List Part) → ps ≡ p.parts → AllShared hands ps q.parts o.parts → q.table ≡ p.table → o.table ≡ p.table → q.room ≡ p.room → IsSharedTo hands p q o
+is_shared_to hands p q o ps parts shared first second room = record {
   first = shared.first ∙ ap (map (first_of hands)) parts;
   second = shared.second ∙ ap (map (second_of hands)) parts;
   first_table = first;
   second_table = second;
   room = room;
-  rows = shared.rows;
+  rows = λ s. shared.rows s ∙ ap (λ (l : List Part). rows_in l s) parts;
   weight = shared.weight ∙ ap weight_in parts;
-  holder = shared.holder;
-  same = shared.same;
 }
 
 -- The share of a chain of several spans: the first was shared, and then those of a list, which was lent as `lent` and is written back as `firsts`
-pub record WholeShare (hands : Bool) (h k : SeatSeen) (t : TableId) (ps qs ms : List Part) (rest firsts seconds : List (List Part)) : Type 0 where
-  pub shared : AllShared hands h k ps qs ms
+pub record WholeShare (hands : Bool) (t : TableId) (ps qs ms : List Part) (rest firsts seconds : List (List Part)) : Type 0 where
+  pub shared : AllShared hands ps qs ms
   pub count : length firsts ≡ length rest
   pub first : IsChain t qs × NoneEmpty firsts
   pub second : IsChain t ms × NoneEmpty seconds
 
-pub whole_share : (hands : Bool) (h g k : SeatSeen) (t : TableId) (first one other : List Part) (rest lent firsts seconds : List (List Part)) (n : ℕ) → IsChain t (first ++ all_parts rest) × NoneEmpty rest → AllShared hands h g first one other → lent ≡ rest → length lent ≡ n
-    → length firsts ≡ length lent → AllShared hands g k (all_parts lent) (all_parts firsts) (all_parts seconds) → (NoneEmpty lent → NoneEmpty firsts × NoneEmpty seconds)
-    → WholeShare hands h k t (first ++ all_parts rest) (one ++ all_parts (refill n rest firsts)) (other ++ all_parts seconds) rest (refill n rest firsts) seconds
-whole_share hands h g k t first one other rest lent firsts seconds n chain front is len same behind full =
+pub whole_share : (hands : Bool) (t : TableId) (first one other : List Part) (rest lent firsts seconds : List (List Part)) (n : ℕ) → IsChain t (first ++ all_parts rest) × NoneEmpty rest → AllShared hands first one other → lent ≡ rest → length lent ≡ n
+    → length firsts ≡ length lent → AllShared hands (all_parts lent) (all_parts firsts) (all_parts seconds) → (NoneEmpty lent → NoneEmpty firsts × NoneEmpty seconds)
+    → WholeShare hands t (first ++ all_parts rest) (one ++ all_parts (refill n rest firsts)) (other ++ all_parts seconds) rest (refill n rest firsts) seconds
+whole_share hands t first one other rest lent firsts seconds n chain front is len same behind full =
     let m = ap (λ (l : List (List Part)). length l) is in
-    let whole = shared_both hands h g k first one other (all_parts rest) (all_parts firsts) (all_parts seconds) front (subst (λ (l : List (List Part)). AllShared hands g k (all_parts l) (all_parts firsts) (all_parts seconds)) is behind) in
+    let whole = shared_both hands first one other (all_parts rest) (all_parts firsts) (all_parts seconds) front (subst (λ (l : List (List Part)). AllShared hands (all_parts l) (all_parts firsts) (all_parts seconds)) is behind) in
     let each = full (subst (λ (l : List (List Part)). NoneEmpty l) (sym is) chain.1) in
-    subst (λ (l : List (List Part)). WholeShare hands h k t (first ++ all_parts rest) (one ++ all_parts l) (other ++ all_parts seconds) rest l seconds) (sym (refilled n rest firsts (omega arith) (omega arith))) record {
+    subst (λ (l : List (List Part)). WholeShare hands t (first ++ all_parts rest) (one ++ all_parts l) (other ++ all_parts seconds) rest l seconds) (sym (refilled n rest firsts (omega arith) (omega arith))) record {
       shared = whole;
       count = omega arith;
-      first = (first_chain hands h k t (first ++ all_parts rest) (one ++ all_parts firsts) (other ++ all_parts seconds) chain.0 whole, each.0);
-      second = (second_chain hands h k t (first ++ all_parts rest) (one ++ all_parts firsts) (other ++ all_parts seconds) chain.0 whole, each.1);
+      first = (first_chain hands t (first ++ all_parts rest) (one ++ all_parts firsts) (other ++ all_parts seconds) chain.0 whole, each.0);
+      second = (second_chain hands t (first ++ all_parts rest) (one ++ all_parts firsts) (other ++ all_parts seconds) chain.0 whole, each.1);
     }
 
 -- the share of a chain of one span
-pub alone_share : (hands : Bool) (h k : SeatSeen) (t : TableId) (first one other : List Part) (rest none : List (List Part)) → length rest ≡ 0 → none ≡ [] → IsChain t (first ++ all_parts rest) × NoneEmpty rest → AllShared hands h k first one other
-    → WholeShare hands h k t (first ++ all_parts rest) (one ++ all_parts rest) (other ++ all_parts none) rest rest none
-alone_share hands h k t first one other [] none few is chain front =
-    let whole = shared_both hands h k k first one other [] [] [] front (shared_none hands k) in
-    subst (λ (l : List (List Part)). WholeShare hands h k t (first ++ []) (one ++ []) (other ++ all_parts l) [] [] l) (sym is) record {
+pub alone_share : (hands : Bool) (t : TableId) (first one other : List Part) (rest none : List (List Part)) → length rest ≡ 0 → none ≡ [] → IsChain t (first ++ all_parts rest) × NoneEmpty rest → AllShared hands first one other
+    → WholeShare hands t (first ++ all_parts rest) (one ++ all_parts rest) (other ++ all_parts none) rest rest none
+alone_share hands t first one other [] none few is chain front =
+    let whole = shared_both hands first one other [] [] [] front (shared_none hands) in
+    subst (λ (l : List (List Part)). WholeShare hands t (first ++ []) (one ++ []) (other ++ all_parts l) [] [] l) (sym is) record {
       shared = whole;
       count = refl;
-      first = (first_chain hands h k t (first ++ []) (one ++ []) (other ++ []) chain.0 whole, All-nil (λ (q : List Part). 0 < length q));
-      second = (second_chain hands h k t (first ++ []) (one ++ []) (other ++ []) chain.0 whole, All-nil (λ (q : List Part). 0 < length q));
+      first = (first_chain hands t (first ++ []) (one ++ []) (other ++ []) chain.0 whole, All-nil (λ (q : List Part). 0 < length q));
+      second = (second_chain hands t (first ++ []) (one ++ []) (other ++ []) chain.0 whole, All-nil (λ (q : List Part). 0 < length q));
     }
-alone_share hands h k t first one other (x ∷ xs) none few is chain front = absurd (omega arith)
+alone_share hands t first one other (x ∷ xs) none few is chain front = absurd (omega arith)
 
--- the owners of a chain's pbufs may be shared where each may add one, and the kept counts have room
-pub may_share : (h : SeatSeen) (t : TableId) (c : ChainSeen) (ps : List Part) → IsOf h c → ps ≡ c.parts → t ≡ c.table → IsChain t ps → 0 < least_adds c.parts → All (λ p. HasRoom (length c.parts) h p.owner) c.parts → MayShare h c.parts
-may_share h t c ps of parts table chain adds rooms = record {
+-- the owners of a chain's pbufs may be shared where each may add one
+pub may_share : (h : SeatSeen) (t : TableId) (c : ChainSeen) (ps : List Part) → IsOf h c → ps ≡ c.parts → t ≡ c.table → IsChain t ps → 0 < least_adds c.parts → MayShare h c.parts
+may_share h t c ps of parts table chain adds = record {
   under = subst (λ (l : List Part). All (λ p. IsUnder h.holder.table p.owner) l) parts (subst (λ (u : TableId). All (λ p. IsUnder u p.owner) ps) (table ∙ of.table) chain.under);
   listed = of.listed;
   adds = adds;
-  rooms = rooms;
 }
 
 -- both chains may be given up to the seat
-pub first_of_seat : (hands : Bool) (h k : SeatSeen) (p q o : ChainSeen) → IsOf h p → IsSharedTo hands h k p q o → IsOf k q
-first_of_seat hands h k p q o of s = record {
-  table = s.first_table ∙ (of.table ∙ sym s.same.table);
-  listed = λ t. let e = ap (λ (l : List Part). rows_in l t) s.first in let f = rows_firsts hands p.parts t in let l = of.listed t in let r = s.rows t in omega arith;
+pub first_of_seat : (hands : Bool) (h k : SeatSeen) (p q o : ChainSeen) → k ≡ h → IsOf h p → IsSharedTo hands p q o → IsOf k q
+first_of_seat hands h k p q o same of s = subst (λ (x : SeatSeen). IsOf x q) (sym same) record {
+  table = s.first_table ∙ of.table;
+  listed = λ t. let l = of.listed t in let r = s.rows t in omega arith;
 }
 
-pub second_of_seat : (hands : Bool) (h k : SeatSeen) (p q o : ChainSeen) → IsOf h p → IsSharedTo hands h k p q o → IsOf k o
-second_of_seat hands h k p q o of s = record {
-  table = s.second_table ∙ (of.table ∙ sym s.same.table);
-  listed = λ t. let r = s.rows t in omega arith;
+pub second_of_seat : (hands : Bool) (h k : SeatSeen) (p q o : ChainSeen) → k ≡ h → IsOf h p → IsSharedTo hands p q o → IsOf k o
+second_of_seat hands h k p q o same of s = subst (λ (x : SeatSeen). IsOf x o) (sym same) record {
+  table = s.second_table ∙ of.table;
+  listed = λ t. let l = of.listed t in let r = s.rows t in omega arith;
 }
 
-pub first_seats : (hands : Bool) (h k : SeatSeen) (p q : ChainSeen) (r : Result ChainSeen ShareFault) → IsOf h p → IfOk r (λ o. IsSharedTo hands h k p q o) → OnOk r (IsOf k q)
-first_seats hands h k p q (Ok o) of s = first_of_seat hands h k p q o of s
-first_seats hands h k p q (Err f) of s = tt
+pub first_seats : (hands : Bool) (h k : SeatSeen) (p q : ChainSeen) (r : Result ChainSeen ShareFault) → k ≡ h → IsOf h p → IfOk r (λ o. IsSharedTo hands p q o) → OnOk r (IsOf k q)
+first_seats hands h k p q (Ok o) same of s = first_of_seat hands h k p q o same of s
+first_seats hands h k p q (Err f) same of s = tt
 
-pub second_seats : (hands : Bool) (h k : SeatSeen) (p q : ChainSeen) (r : Result ChainSeen ShareFault) → IsOf h p → IfOk r (λ o. IsSharedTo hands h k p q o) → IfOk r (λ o. IsOf k o)
-second_seats hands h k p q (Ok o) of s = second_of_seat hands h k p q o of s
-second_seats hands h k p q (Err f) of s = tt
+pub second_seats : (hands : Bool) (h k : SeatSeen) (p q : ChainSeen) (r : Result ChainSeen ShareFault) → k ≡ h → IsOf h p → IfOk r (λ o. IsSharedTo hands p q o) → IfOk r (λ o. IsOf k o)
+second_seats hands h k p q (Ok o) same of s = second_of_seat hands h k p q o same of s
+second_seats hands h k p q (Err f) same of s = tt
 
-pub is_chained : (h k : SeatSeen) (p q t u o : ChainSeen) → IsSharedTo false h k t u o → q.parts ≡ p.parts ++ o.parts → q.table ≡ p.table → IsChained h k p q t u
-is_chained h k p q t u o s parts table = record {
+pub is_chained : (p q t u o : ChainSeen) → IsSharedTo false t u o → q.parts ≡ p.parts ++ o.parts → q.table ≡ p.table → IsChained p q t u
+is_chained p q t u o s parts table = record {
   parts = parts ∙ ap (λ (l : List Part). p.parts ++ l) s.second;
   tail = s.first;
   table = table;
   tail_table = s.first_table;
-  rows = λ x. let r = s.rows x in let e = ap (λ (l : List Part). rows_in l x) s.second in let f = rows_seconds false t.parts x in omega arith;
-  gained = λ x. let a = ap (λ (l : List Part). rows_in l x) parts in let b = sum_by-append (λ (y : Part). row_of y.owner x) p.parts o.parts in let e = ap (λ (l : List Part). rows_in l x) s.second in let f = rows_seconds false t.parts x in omega arith;
-  kept = λ x. ap (λ (l : List Part). rows_in l x) s.first ∙ rows_firsts false t.parts x;
+  rows = λ x. let a = ap (λ (l : List Part). rows_in l x) parts in let b = sum_by-append (λ (y : Part). row_of y.owner x) p.parts o.parts in let r = s.rows x in omega arith;
   weight = let a = ap weight_in parts in let b = sum_by-append (λ (y : Part). weight_of y.owner) p.parts o.parts in let w = s.weight in omega arith;
-  same = s.same;
 }
-
--- a chain may still be given up after another was
-pub still_of : (h k : SeatSeen) (c o : ChainSeen) → IsSpent h k o.parts → c.table ≡ h.holder.table → ((s : Slot) → rows_in c.parts s + rows_in o.parts s ≤ rows_of h.kept s) → IsOf k c
-still_of h k c o spent table listed = record {
-  table = table ∙ sym spent.same.table;
-  listed = λ s. let r = spent.rows s in let l = listed s in omega arith;
-}
-
--- the rows of both chains are among those of the seat
-pub both_listed : (hands : Bool) (h k : SeatSeen) (p q o : ChainSeen) → IsOf h p → IsSharedTo hands h k p q o → (s : Slot) → rows_in q.parts s + rows_in o.parts s ≤ rows_of k.kept s
-both_listed hands h k p q o of share s = let e = ap (λ (l : List Part). rows_in l s) share.first in let f = rows_firsts hands p.parts s in let l = of.listed s in let r = share.rows s in omega arith

@@ -1,5 +1,5 @@
 -- What cuts leave of spans.
-use Rattle.std.proofs.Common.{◌≡◌, ℕ, ◌+◌, ◌-◌, ◌<◌, ◌≤◌, min, List, [], ◌∷◌, ◌++◌, length, set, take, drop, get_or, All, refl, sym, ap, ◌∙◌, subst, arith, length-append, length-drop, length-take, append-nil, inl, inr, Some}
+use Rattle.std.proofs.Common.{◌≡◌, ℕ, ◌+◌, ◌-◌, ◌<◌, ◌≤◌, min, List, [], ◌∷◌, ◌++◌, length, set, take, drop, get_or, All, refl, sym, ap, ◌∙◌, subst, arith, length-append, length-drop, length-take, append-nil, ◌⊎◌, inl, inr, Some}
 use Rattle.std.specs.List.{remove}
 use Rattle.std.proofs.Math.Seq.{take-append-add}
 use Rattle.std.proofs.lemmas.Bool.{cases_lt}
@@ -11,8 +11,9 @@ use Rattle.pbuf_seats.specs.Kept.{rows_of}
 use Rattle.pbuf_seats.specs.Seats.{SeatSeen}
 use Rattle.pbuf_spans.specs.Parts.{Part, joined, rows_in, IsChain, IsSpent}
 use Rattle.lw_pbuf.specs.Chains.{all_parts, NoneEmpty}
-use Rattle.pbuf_spans.specs.Cuts.{IsCutTo}
+use Rattle.pbuf_spans.specs.Cuts.{without_front, with_front, IsCutTo}
 use Rattle.pbuf_spans.proofs.Cutting.{still_listed, cut_none, cut_then}
+use Rattle.pbuf_spans.proofs.Ends.{front_none, front_within, front_beyond, front_all, back_none, back_within, back_beyond, back_all}
 use Rattle.pbuf_spans.proofs.Lists.{joined-append}
 use Rattle.lw_pbuf.proofs.Joined.{length-joined-append, few_parts}
 use Rattle.lw_pbuf.proofs.Spans.{chain-both, chain-front, chain-back, all_parts-push, drop-both}
@@ -115,6 +116,34 @@ octets_back xs zs ys ws n left rest second first =
           ap (λ (l : List ℕ). l ++ take (length b - n) b) (take_all (length a - left) a (omega arith)) ∙ sym (ap (λ (k : ℕ). take k (a ++ b)) many ∙ take-append-add a b (length b - n))
     ]
 
+-- The pbufs that are left of both: where the octets are cut off the front
+
+pub parts_front : (xs zs ys ws : List Part) (n m : ℕ) → All (λ p. 0 < length p.octets) ys → m ≡ min n (length (joined xs)) → zs ≡ without_front m xs → ws ≡ without_front (n - m) ys → zs ++ ws ≡ without_front n (xs ++ ys)
+parts_front xs zs ys ws n m some most first second = (λ i. first i ++ second i) ∙ cut (cases_lt n (length (joined xs)))
+  where
+    cut : (n < length (joined xs)) ⊎ (length (joined xs) ≤ n) → without_front m xs ++ without_front (n - m) ys ≡ without_front n (xs ++ ys)
+    cut (inl within) =
+        (λ i. without_front ((let e : m ≡ n = omega arith in e) i) xs ++ without_front ((let e : n - m ≡ 0 = omega arith in e) i) ys)
+        ∙ (ap (λ (l : List Part). without_front n xs ++ l) (front_none ys some) ∙ sym (front_within xs ys n within))
+    cut (inr past) =
+        (λ i. front_all xs m (omega arith) i ++ without_front ((let e : n - m ≡ n - length (joined xs) = omega arith in e) i) ys) ∙ sym (front_beyond xs ys n past)
+
+-- and off the back
+pub parts_back : (xs zs ys ws : List Part) (n left : ℕ) → All (λ p. 0 < length p.octets) xs → left ≡ n - length (joined ys) → ws ≡ with_front (length (joined ys) - n) ys → zs ≡ with_front (length (joined xs) - left) xs
+    → zs ++ ws ≡ with_front (length (joined (xs ++ ys)) - n) (xs ++ ys)
+parts_back xs zs ys ws n left some rest second first = (λ i. first i ++ second i) ∙ cut (cases_lt (length (joined ys)) n)
+  where
+    cut : (length (joined ys) < n) ⊎ (n ≤ length (joined ys)) → with_front (length (joined xs) - left) xs ++ with_front (length (joined ys) - n) ys ≡ with_front (length (joined (xs ++ ys)) - n) (xs ++ ys)
+    cut (inl past) =
+        let both = length-joined-append xs ys in
+        (λ i. with_front (length (joined xs) - left) xs ++ with_front ((let e : length (joined ys) - n ≡ 0 = omega arith in e) i) ys)
+        ∙ (ap (λ (l : List Part). with_front (length (joined xs) - left) xs ++ l) (back_none ys) ∙ (append-nil (with_front (length (joined xs) - left) xs)
+        ∙ sym (ap (λ (k : ℕ). with_front k (xs ++ ys)) (let e : length (joined (xs ++ ys)) - n ≡ length (joined xs) - left = omega arith in e) ∙ back_within xs ys (length (joined xs) - left) (omega arith))))
+    cut (inr within) =
+        let both = length-joined-append xs ys in
+        ap (λ (l : List Part). l ++ with_front (length (joined ys) - n) ys) (back_all xs (length (joined xs) - left) (omega arith) some)
+        ∙ sym (ap (λ (k : ℕ). with_front k (xs ++ ys)) (let e : length (joined (xs ++ ys)) - n ≡ length (joined xs) + (length (joined ys) - n) = omega arith in e) ∙ back_beyond xs ys (length (joined ys) - n) some)
+
 -- the first span of some may be given up
 pub first_span : (h : SeatSeen) (ss : List (List Part)) (p : List Part) → MayGive h (all_parts ss) → 0 < length (joined (all_parts ss)) → p ≡ get_or ss 0 p → MayGive h p
 first_span h [] p m some is = absurd (omega arith)
@@ -127,6 +156,7 @@ same_first (x ∷ xs) p q some a b = a ∙ sym b
 -- One step of a cut at the front: of the spans ss are left ts, and of n octets still so many are to be cut
 pub record CutsFront (h k : SeatSeen) (ss ts : List (List Part)) (n left : ℕ) : Type 0 where
   pub octets : drop left (joined (all_parts ts)) ≡ drop n (joined (all_parts ss))
+  pub left_parts : without_front left (all_parts ts) ≡ without_front n (all_parts ss)
   pub within : left ≤ length (joined (all_parts ts))
   pub less : left < n
   pub cuts : Cuts h k (all_parts ss) (all_parts ts)
@@ -135,17 +165,19 @@ pub record CutsFront (h k : SeatSeen) (ss ts : List (List Part)) (n left : ℕ) 
 
 -- octets of the first span are cut off
 pub front_part : (h k : SeatSeen) (ss ts : List (List Part)) (p q : List Part) (n : ℕ) → MayGive h (all_parts ss) → NoneEmpty ss → 0 < n → n ≤ length (joined (all_parts ss)) → p ≡ get_or ss 0 p → n < length (joined p)
-    → joined q ≡ drop n (joined p) → IsChain k.holder.table q → IsCutTo h k p q → ts ≡ set ss 0 q → CutsFront h k ss ts n 0
-front_part h k [] ts p q n m full some within is short octets chain cut now = absurd (omega arith)
-front_part h k (x ∷ xs) ts p q n m full some within is short octets chain cut now =
+    → joined q ≡ drop n (joined p) → q ≡ without_front n p → IsChain k.holder.table q → IsCutTo h k p q → ts ≡ set ss 0 q → CutsFront h k ss ts n 0
+front_part h k [] ts p q n m full some within is short octets parts chain cut now = absurd (omega arith)
+front_part h k (x ∷ xs) ts p q n m full some within is short octets parts chain cut now =
     subst (λ (l : List (List Part)). CutsFront h k (x ∷ xs) l n 0) (sym now)
     (subst (λ (y : List Part). CutsFront h k (y ∷ xs) (q ∷ xs) n 0) is
     (let long : length (joined q) ≡ length (joined p) - n = ap length octets ∙ length-drop n (joined p) in
+    let cuts : Cuts h k (p ++ all_parts xs) (q ++ all_parts xs) = cuts_front h k p q (all_parts xs) (subst (λ (y : List Part). MayGive h (y ++ all_parts xs)) (sym is) m) chain (omega arith) cut in
     record {
+      left_parts = front_none (q ++ all_parts xs) cuts.may.chain.some ∙ (ap (λ (l : List Part). l ++ all_parts xs) parts ∙ sym (front_within p (all_parts xs) n short));
       octets = octets_front p q (all_parts xs) (all_parts xs) n n (omega arith) octets (ap (λ (k : ℕ). drop k (joined (all_parts xs))) (let e : 0 ≡ n - n = omega arith in e));
       within = omega arith;
       less = some;
-      cuts = cuts_front h k p q (all_parts xs) (subst (λ (y : List Part). MayGive h (y ++ all_parts xs)) (sym is) m) chain (omega arith) cut;
+      cuts = cuts;
       full = All-cons (λ (l : List Part). 0 < length l) q xs (some_parts q (omega arith)) (All-tail (λ (l : List Part). 0 < length l) x xs full);
       fewer = omega arith;
     }))
@@ -163,6 +195,7 @@ front_whole h k (x ∷ xs) ts p n m left may full some within is len long rest r
     record {
       octets = sym (ap (drop n) (joined-append x (all_parts xs)) ∙ (drop-both n (joined x) (joined (all_parts xs))
           ∙ (λ i. drop_all n (joined x) (omega arith) i ++ drop ((let e : n - length (joined x) ≡ left = omega arith in e) i) (joined (all_parts xs)))));
+      left_parts = sym (front_beyond x (all_parts xs) n (omega arith) ∙ ap (λ (k : ℕ). without_front k (all_parts xs)) (let e : n - length (joined x) ≡ left = omega arith in e));
       within = omega arith;
       less = omega arith;
       cuts = cuts_first h k x (all_parts xs) may spent_x;
@@ -173,18 +206,21 @@ front_whole h k (x ∷ xs) ts p n m left may full some within is len long rest r
 -- One step of a cut at the back: a span stood behind the spans ss, of which ts are left, and of n octets still so many are to be cut
 pub record CutsBack (h k : SeatSeen) (ss ts : List (List Part)) (p : List Part) (n left : ℕ) : Type 0 where
   pub octets : left ≡ 0 → joined (all_parts ts) ≡ take (length (joined (all_parts ss ++ p)) - n) (joined (all_parts ss ++ p))
+  pub left_parts : left ≡ 0 → all_parts ts ≡ with_front (length (joined (all_parts ss ++ p)) - n) (all_parts ss ++ p)
   pub cuts : Cuts h k (all_parts ss ++ p) (all_parts ts)
   pub full : NoneEmpty ts
   pub fewer : length ts ≤ length ss + 1
 
 -- octets of the last span are cut off
 pub back_part : (h k : SeatSeen) (ss ts : List (List Part)) (p q : List Part) (n : ℕ) → MayGive h (all_parts ss ++ p) → NoneEmpty ss → n < length (joined p)
-    → joined q ≡ take (length (joined p) - n) (joined p) → IsChain k.holder.table q → IsCutTo h k p q → ts ≡ ss ++ q ∷ [] → CutsBack h k ss ts p n 0
-back_part h k ss ts p q n m full short octets chain cut now =
+    → joined q ≡ take (length (joined p) - n) (joined p) → q ≡ with_front (length (joined p) - n) p → IsChain k.holder.table q → IsCutTo h k p q → ts ≡ ss ++ q ∷ [] → CutsBack h k ss ts p n 0
+back_part h k ss ts p q n m full short octets left chain cut now =
     let parts : all_parts ts ≡ all_parts ss ++ q = ap (λ (l : List (List Part)). all_parts l) now ∙ all_parts-push ss q in
+    let front = chain-front h.holder.table (all_parts ss) p m.chain in
     let long : length (joined q) ≡ min (length (joined p) - n) (length (joined p)) = ap length octets ∙ length-take (length (joined p) - n) (joined p) in
     record {
       octets = λ _. ap joined parts ∙ octets_back (all_parts ss) (all_parts ss) p q n 0 (omega arith) octets (sym (take_all (length (joined (all_parts ss)) - 0) (joined (all_parts ss)) (omega arith)));
+      left_parts = λ _. parts ∙ parts_back (all_parts ss) (all_parts ss) p q n 0 front.some (omega arith) left (sym (back_all (all_parts ss) (length (joined (all_parts ss)) - 0) (omega arith) front.some));
       cuts = subst (λ (l : List Part). Cuts h k (all_parts ss ++ p) l) (sym parts) (cuts_back h k (all_parts ss) p q m chain (omega arith) cut);
       full = subst (λ (l : List (List Part)). NoneEmpty l) (sym now) (All-push (λ (l : List Part). 0 < length l) ss q full (some_parts q (omega arith)));
       fewer = let e = ap (λ (l : List (List Part)). length l) now in let a = length-append ss (q ∷ []) in omega arith;
@@ -198,6 +234,10 @@ back_whole h k ss p n m left may full len long rest spent =
       octets = λ none. sym (ap (λ (l : List ℕ). take (length l - n) l) (joined-append (all_parts ss) p)
           ∙ (ap (λ (k : ℕ). take k (joined (all_parts ss) ++ joined p)) (let e : length (joined (all_parts ss) ++ joined p) - n ≡ length (joined (all_parts ss)) = omega arith in e)
           ∙ take_at (joined (all_parts ss)) (joined p) (length (joined (all_parts ss))) refl));
+      left_parts = λ none.
+          let size = length-joined-append (all_parts ss) p in
+          sym (ap (λ (k : ℕ). with_front k (all_parts ss ++ p)) (let e : length (joined (all_parts ss ++ p)) - n ≡ length (joined (all_parts ss)) = omega arith in e)
+          ∙ (back_within (all_parts ss) p (length (joined (all_parts ss))) (omega arith) ∙ back_all (all_parts ss) (length (joined (all_parts ss))) refl (chain-front h.holder.table (all_parts ss) p may.chain).some));
       cuts = cuts_last h k (all_parts ss) p may spent;
       full = full;
       fewer = omega arith;
@@ -206,13 +246,14 @@ back_whole h k ss p n m left may full len long rest spent =
 -- a cut at the back under way: of the spans ss are left ts, and of n octets still so many are to be cut
 pub record BackCut (h k : SeatSeen) (ss ts : List (List Part)) (n left : ℕ) : Type 0 where
   pub octets : take (length (joined (all_parts ts)) - left) (joined (all_parts ts)) ≡ take (length (joined (all_parts ss)) - n) (joined (all_parts ss))
+  pub left_parts : with_front (length (joined (all_parts ts)) - left) (all_parts ts) ≡ with_front (length (joined (all_parts ss)) - n) (all_parts ss)
   pub count : length (joined (all_parts ts)) + n ≡ length (joined (all_parts ss)) + left
   pub cuts : Cuts h k (all_parts ss) (all_parts ts)
   pub full : NoneEmpty ts
   pub fewer : length ts ≤ length ss
 
 pub back_first : (h : SeatSeen) (ss : List (List Part)) (n : ℕ) → MayGive h (all_parts ss) → NoneEmpty ss → BackCut h h ss ss n n
-back_first h ss n m full = record { octets = refl; count = refl; cuts = record { may = m; cut = cut_none h (all_parts ss) }; full = full; fewer = omega arith }
+back_first h ss n m full = record { octets = refl; left_parts = refl; count = refl; cuts = record { may = m; cut = cut_none h (all_parts ss) }; full = full; fewer = omega arith }
 
 module _ (h k : SeatSeen) (ss ts us : List (List Part)) (p : List Part) (n left : ℕ) (b : BackCut h k ss ts n left) (is : ts ≡ us ++ p ∷ []) where
   parts : all_parts ts ≡ all_parts us ++ p
@@ -229,8 +270,9 @@ module _ (h k : SeatSeen) (ss ts us : List (List Part)) (p : List Part) (n left 
 
   pub back_next : (l : SeatSeen) (vs : List (List Part)) (after : ℕ) → after ≡ left - length (joined p) → (0 < after → vs ≡ us)
       → (after ≡ 0 → joined (all_parts vs) ≡ take (length (joined (all_parts us ++ p)) - left) (joined (all_parts us ++ p)))
+      → (after ≡ 0 → all_parts vs ≡ with_front (length (joined (all_parts us ++ p)) - left) (all_parts us ++ p))
       → IsChain l.holder.table (all_parts vs) → ((s : Slot) → rows_in (all_parts vs) s ≤ rows_of l.kept s) → IsCutTo k l (all_parts us ++ p) (all_parts vs) → NoneEmpty vs → length vs ≤ length us + 1 → BackCut h l ss vs n after
-  back_next l vs after rest same last chain listed cut full few =
+  back_next l vs after rest same last last_parts chain listed cut full few =
       let old_count = b.count in
       let at_parts = ap (λ (x : List Part). length (joined x)) parts in
       let both = length-append (joined (all_parts us)) (joined p) in
@@ -245,6 +287,11 @@ module _ (h k : SeatSeen) (ss ts us : List (List Part)) (p : List Part) (n left 
                   ∙ (ap (λ (j : ℕ). take j (joined (all_parts us) ++ joined p)) (let e : length (joined (all_parts us) ++ joined p) - left ≡ length (joined (all_parts us)) - after = omega arith in e)
                   ∙ take-append-le (length (joined (all_parts us)) - after) (joined (all_parts us)) (joined p) (omega arith))))
                   ∙ b.octets);
+              left_parts = ap (λ (x : List (List Part)). with_front (length (joined (all_parts x)) - after) (all_parts x)) (same more)
+                  ∙ (sym (ap (λ (x : List Part). with_front (length (joined x) - left) x) parts
+                  ∙ (ap (λ (j : ℕ). with_front j (all_parts us ++ p)) (let e : length (joined (all_parts us ++ p)) - left ≡ length (joined (all_parts us)) - after = omega arith in e)
+                  ∙ back_within (all_parts us) p (length (joined (all_parts us)) - after) (omega arith)))
+                  ∙ b.left_parts);
               count = omega arith;
               cuts = cuts_next;
               full = full;
@@ -256,6 +303,7 @@ module _ (h k : SeatSeen) (ss ts us : List (List Part)) (p : List Part) (n left 
             let size = ap length got ∙ length-take (length (joined (all_parts us ++ p)) - left) (joined (all_parts us ++ p)) in
             record {
               octets = take_all (length (joined (all_parts vs)) - after) (joined (all_parts vs)) (omega arith) ∙ (got ∙ (sym (ap (λ (x : List Part). take (length (joined x) - left) (joined x)) parts) ∙ b.octets));
+              left_parts = back_all (all_parts vs) (length (joined (all_parts vs)) - after) (omega arith) chain.some ∙ (last_parts none ∙ (sym (ap (λ (x : List Part). with_front (length (joined x) - left) x) parts) ∙ b.left_parts));
               count = omega arith;
               cuts = cuts_next;
               full = full;

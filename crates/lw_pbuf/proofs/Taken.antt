@@ -1,5 +1,5 @@
 -- Pbufs that are taken from a seat one after another.
-use Rattle.std.proofs.Common.{◌≡◌, ℕ, ◌+◌, ◌-◌, ◌<◌, ◌≤◌, min, Bool, true, false, cond, ◌&&◌, List, [], ◌∷◌, ◌++◌, length, take, drop, All, Option, Some, None, refl, sym, ap, ◌∙◌, subst, arith, length-append, eqb, eq-eqb, eqb-true}
+use Rattle.std.proofs.Common.{◌≡◌, ℕ, ◌+◌, ◌-◌, ◌*◌, ◌<◌, ◌≤◌, min, Bool, true, false, cond, ◌&&◌, List, [], ◌∷◌, ◌++◌, length, take, drop, All, Option, Some, None, refl, sym, ap, ◌∙◌, subst, arith, length-append, eqb, eq-eqb, eqb-true}
 use Rattle.std.specs.Option.{IfSome, IsSome, IsNone}
 use Rattle.std.specs.Prelude.{◌↔◌}
 use Rattle.std.proofs.lemmas.Bool.{false≢true}
@@ -10,13 +10,13 @@ use native.Mathlib.Decide.{dec_le}
 use Rattle.atomic_table.specs.Seated.{TableId}
 use Rattle.lw_payload.specs.declared.kinds.Kind.{Kind}
 use Rattle.lw_payload.specs.declared.kinds.Kind.TheVariants.{Ram, Pool, Rom, Ref}
-use Rattle.lw_payload.specs.Views.{Slot, pbufs_of}
-use Rattle.pbuf_counts.specs.Owners.{claim_weight, first_adds}
+use Rattle.lw_payload.specs.Views.{Slot, pbufs_of, pool_one}
+use Rattle.pbuf_counts.specs.Owners.{claim_weight, first_adds, times}
 use Rattle.pbuf_counts.specs.Holders.{Known, owner_of}
 use Rattle.pbuf_seats.specs.declared.owner.Owner.{Owner}
 use Rattle.pbuf_seats.specs.declared.owner.Owner.TheVariants.{Kept, Counted}
 use Rattle.pbuf_seats.specs.Owners.{row_of, weight_of, adds_of}
-use Rattle.pbuf_seats.specs.Kept.{counts_of, rows_of, row_at, number_of, is_at}
+use Rattle.pbuf_seats.specs.Kept.{counts_of, rows_of, rows_at, number_of, is_at}
 use Rattle.pbuf_seats.specs.Seats.{SeatSeen, IsInUse}
 use Rattle.pbuf_seats.specs.declared.pbuf.Pbuf.{Pbuf}
 use Rattle.pbuf_spans.specs.Parts.{Part, rows_in, weight_in, IsUnder}
@@ -83,13 +83,23 @@ kind_of_number Ref Ram e = absurd (omega arith)
 kind_of_number Ref Pool e = absurd (omega arith)
 kind_of_number Ref Rom e = absurd (omega arith)
 
-pub own_row : (kind : Kind) (place : ℕ) → row_at kind place record { kind = kind; place = place } ≡ 1
-own_row kind place = λ i. cond (eq-eqb (number_of kind) (number_of kind) refl i && eq-eqb place place refl i) 1 0
+pub own_row : (kind : Kind) (place n : ℕ) → rows_at kind place n record { kind = kind; place = place } ≡ n
+own_row kind place n = λ i. cond (eq-eqb (number_of kind) (number_of kind) refl i && eq-eqb place place refl i) n 0
+
+-- the place where a pbuf of a kind stands is its own
+slot_kind : (a kind : Kind) (place : ℕ) → a ≡ kind → (k : SeatSeen) → rows_of k.kept (record { kind = kind; place = place }) ≡ 0 → rows_of k.kept (record { kind = a; place = place }) ≡ 0
+slot_kind a kind place e k none = subst (λ (x : Kind). rows_of k.kept (record { kind = x; place = place }) ≡ 0) (sym e) none
+
+-- rows at a slot are those of its pbuf
+row_place : (b c : Bool) (n x place : ℕ) → eqb x place ≡ c → 0 < cond {A = ℕ} (b && c) n 0 → x ≡ place
+row_place b true n x place e some = eqb-true x place e
+row_place true false n x place e some = absurd (omega arith)
+row_place false false n x place e some = absurd (omega arith)
 
 -- a row of a pbuf is one of its kind
-row_kind : (b c : Bool) (a kind : Kind) → eqb (number_of a) (number_of kind) ≡ b → 0 < cond {A = ℕ} (b && c) 1 0 → a ≡ kind
-row_kind true c a kind e some = kind_of_number a kind (eqb-true (number_of a) (number_of kind) e)
-row_kind false c a kind e some = absurd (omega arith)
+row_kind : (b c : Bool) (n : ℕ) (a kind : Kind) → eqb (number_of a) (number_of kind) ≡ b → 0 < cond {A = ℕ} (b && c) n 0 → a ≡ kind
+row_kind true c n a kind e some = kind_of_number a kind (eqb-true (number_of a) (number_of kind) e)
+row_kind false c n a kind e some = absurd (omega arith)
 
 -- One pbuf
 
@@ -107,11 +117,12 @@ claimed_here h k kind place o is after sum counted = record {
     sizes = λ j. ap (λ (x : SeatSeen). length (counts_of j x.kept)) after;
     makes = ap (λ (x : SeatSeen). x.makes) after;
     splits = ap (λ (x : SeatSeen). x.splits) after;
-    claimed = let a = ap (λ (x : SeatSeen). x.claimed) after in let c = ap claim_of is in omega arith;
     got = let a = ap (λ (x : SeatSeen). length x.holder.got) after in let c = ap claim_of is in omega arith;
   };
   under = subst (λ (x : Owner). IsUnder h.holder.table x) (sym is) refl;
   adds = ap adds_of is;
+  claimed = let a = ap (λ (x : SeatSeen). x.claimed) after in let c = ap pool_one (counted_pool h kind counted) in omega arith;
+  alone = λ s some. absurd (let r = ap (λ (x : Owner). row_of x s) is in omega arith);
   rows = λ s some. absurd (let r = ap (λ (x : Owner). row_of x s) is in omega arith);
   kept = λ off. absurd (false≢true (sym off ∙ counted));
   counted = λ _. (ap claim_of is, ap weight_of is);
@@ -126,19 +137,28 @@ pub claim_tried : (h k : SeatSeen) (kind : Kind) (place : ℕ) (r : Option Owner
 claim_tried h k kind place (Some o) counted after busy same = let e = after refl in record {
   got = place ∷ [];
   misses = [];
-  claims = record { gets = ap (λ (x : SeatSeen). x.holder.got) e; finds = ap (λ (x : SeatSeen). x.holder.found) e; in_use = All-nil (λ (m : ℕ × ℕ). 0 < m.1) };
+  claims = record { gets = ap (λ (x : SeatSeen). x.holder.got) e; finds = ap (λ (x : SeatSeen). x.holder.found) e; in_use = All-nil (λ (m : ℕ × ℕ). 0 < m.1); owned = All-nil (λ (m : ℕ × ℕ). 0 < times m.0 k.holder.got) };
   used = on_true (is_counted k kind) _ _ (counted_same h k kind (λ j. ap (λ (x : SeatSeen). length (counts_of j x.kept)) e) ∙ counted) (let t = times-here place in omega arith);
 }
 claim_tried h k kind place None counted after busy same = let u = busy refl in let e = same refl in record {
   got = [];
   misses = (place, u.0) ∷ [];
-  claims = record { gets = ap (λ (x : Known). x.got) u.4; finds = ap (λ (x : Known). x.found) u.4; in_use = All-cons (λ (m : ℕ × ℕ). 0 < m.1) (place, u.0) [] u.1 (All-nil (λ (m : ℕ × ℕ). 0 < m.1)) };
+  claims = record {
+    gets = ap (λ (x : Known). x.got) u.4;
+    finds = ap (λ (x : Known). x.found) u.4;
+    in_use = All-cons (λ (m : ℕ × ℕ). 0 < m.1) (place, u.0) [] u.1 (All-nil (λ (m : ℕ × ℕ). 0 < m.1));
+    owned = All-cons (λ (m : ℕ × ℕ). 0 < times m.0 k.holder.got) (place, u.0) [] (let g = ap (λ (x : Known). times place x.got) u.4 in let s = u.3 in omega arith) (All-nil (λ (m : ℕ × ℕ). 0 < times m.0 k.holder.got));
+  };
   used = on_true (is_counted k kind) _ _ (counted_same h k kind (λ j. ap (λ (x : SeatSeen). length (counts_of j x.kept)) e) ∙ counted) (let t = missed-here place u.0 in omega arith);
 }
 
-taken_here : (h k : SeatSeen) (kind : Kind) (place : ℕ) (o : Owner) → o ≡ Kept (record { kind = kind; place = place; adds = first_adds }) → ((s : Slot) → rows_of k.kept s ≡ rows_of h.kept s + row_of o s) → k ≡ record h { kept = k.kept }
-    → ((j : Kind) → length (counts_of j k.kept) ≡ length (counts_of j h.kept)) → free_in k kind + 1 ≡ free_in h kind → is_counted h kind ≡ false → IsTaken h k kind o
-taken_here h k kind place o is rows after sizes free off = record {
+-- the seat after a kept pbuf was taken
+abbrev after_take : SeatSeen → SeatSeen → Kind → SeatSeen
+after_take h k kind = record h { kept = k.kept; claimed = h.claimed + pool_one kind }
+
+taken_here : (h k : SeatSeen) (kind : Kind) (place : ℕ) (o : Owner) → o ≡ Kept (record { kind = kind; place = place; adds = first_adds }) → ((s : Slot) → rows_of k.kept s ≡ rows_of h.kept s + row_of o s) → k ≡ after_take h k kind
+    → ((j : Kind) → length (counts_of j k.kept) ≡ length (counts_of j h.kept)) → free_in k kind + 1 ≡ free_in h kind → rows_of h.kept (record { kind = kind; place = place }) ≡ 0 → is_counted h kind ≡ false → IsTaken h k kind o
+taken_here h k kind place o is rows after sizes free none off = record {
   gives = record {
     more = rows;
     less = let a = ap (λ (x : SeatSeen). x.holder.weight) after in let c = ap weight_of is in omega arith;
@@ -147,34 +167,40 @@ taken_here h k kind place o is rows after sizes free off = record {
     sizes = sizes;
     makes = ap (λ (x : SeatSeen). x.makes) after;
     splits = ap (λ (x : SeatSeen). x.splits) after;
-    claimed = let a = ap (λ (x : SeatSeen). x.claimed) after in let c = ap claim_of is in omega arith;
     got = let a = ap (λ (x : SeatSeen). length x.holder.got) after in let c = ap claim_of is in omega arith;
   };
   under = subst (λ (x : Owner). IsUnder h.holder.table x) (sym is) tt;
   adds = ap adds_of is;
-  rows = λ s some. (row_kind (eqb (number_of s.kind) (number_of kind)) (eqb s.place place) s.kind kind refl (let r = ap (λ (x : Owner). row_of x s) is in omega arith), off);
+  claimed = ap (λ (x : SeatSeen). x.claimed) after;
+  rows = λ s some. (row_kind (eqb (number_of s.kind) (number_of kind)) (eqb s.place place) (first_adds + 1) s.kind kind refl (let r = ap (λ (x : Owner). row_of x s) is in omega arith), off);
+  alone = λ s some.
+      let some' : 0 < rows_at kind place (first_adds + 1) s = let r = ap (λ (x : Owner). row_of x s) is in omega arith in
+      let same = row_kind (eqb (number_of s.kind) (number_of kind)) (eqb s.place place) (first_adds + 1) s.kind kind refl some' in
+      let there = row_place (eqb (number_of s.kind) (number_of kind)) (eqb s.place place) (first_adds + 1) s.place place refl some' in
+      slot_kind s.kind kind s.place same h (subst (λ (x : ℕ). rows_of h.kept (record { kind = kind; place = x }) ≡ 0) (sym there) none);
   kept = λ _. (ap claim_of is, ap weight_of is, free);
   counted = λ yes'. absurd (false≢true (sym off ∙ yes'));
 }
 
 pub kept_is_taken : (h k : SeatSeen) (kind : Kind) (place : ℕ) (r : Option Owner) → IfSome r (λ o. o ≡ Kept (record { kind = kind; place = place; adds = first_adds })) → IfSome r (λ o. (s : Slot) → rows_of k.kept s ≡ rows_of h.kept s + row_of o s)
-    → k ≡ record h { kept = k.kept } → ((j : Kind) → length (counts_of j k.kept) ≡ length (counts_of j h.kept)) → IfSome r (λ _. free_in k kind + 1 ≡ free_in h kind) → is_counted h kind ≡ false → IfSome r (λ o. IsTaken h k kind o)
-kept_is_taken h k kind place None is rows after sizes free off = tt
-kept_is_taken h k kind place (Some o) is rows after sizes free off = taken_here h k kind place o is rows after sizes free off
+    → (IsSome r → k ≡ after_take h k kind) → ((j : Kind) → length (counts_of j k.kept) ≡ length (counts_of j h.kept)) → IfSome r (λ _. free_in k kind + 1 ≡ free_in h kind)
+    → (IsSome r ↔ (rows_of h.kept (record { kind = kind; place = place }) ≡ 0)) → is_counted h kind ≡ false → IfSome r (λ o. IsTaken h k kind o)
+kept_is_taken h k kind place None is rows after sizes free found off = tt
+kept_is_taken h k kind place (Some o) is rows after sizes free found off = taken_here h k kind place o is rows (after refl) sizes free (found.0 refl) off
 
 pub kept_tried : (h k : SeatSeen) (kind : Kind) (place : ℕ) (r : Option Owner) → is_counted h kind ≡ false → (IsSome r ↔ (rows_of h.kept (record { kind = kind; place = place }) ≡ 0)) → IfSome r (λ o. o ≡ Kept (record { kind = kind; place = place; adds = first_adds }))
-    → IfSome r (λ o. (s : Slot) → rows_of k.kept s ≡ rows_of h.kept s + row_of o s) → k ≡ record h { kept = k.kept } → ((j : Kind) → length (counts_of j k.kept) ≡ length (counts_of j h.kept)) → (IsNone r → k ≡ h) → IsTried h k kind place
+    → IfSome r (λ o. (s : Slot) → rows_of k.kept s ≡ rows_of h.kept s + row_of o s) → (IsSome r → k ≡ after_take h k kind) → ((j : Kind) → length (counts_of j k.kept) ≡ length (counts_of j h.kept)) → (IsNone r → k ≡ h) → IsTried h k kind place
 kept_tried h k kind place (Some o) off found is rows after sizes same = record {
   got = [];
   misses = [];
-  claims = claims_none h.holder k.holder (ap (λ (x : SeatSeen). x.holder) after);
+  claims = claims_none h.holder k.holder (ap (λ (x : SeatSeen). x.holder) (after refl));
   used = on_false (is_counted k kind) _ _ (counted_same h k kind sizes ∙ off)
-      (let s : Slot = record { kind = kind; place = place } in let r = rows s in let e = ap (λ (x : Owner). row_of x s) is in let one = own_row kind place in omega arith);
+      (let s : Slot = record { kind = kind; place = place } in let r = rows s in let e = ap (λ (x : Owner). row_of x s) is in let one = own_row kind place (first_adds + 1) in omega arith);
 }
 kept_tried h k kind place None off found is rows after sizes same = record {
   got = [];
   misses = [];
-  claims = claims_none h.holder k.holder (ap (λ (x : SeatSeen). x.holder) after);
+  claims = claims_none h.holder k.holder (ap (λ (x : SeatSeen). x.holder) (same refl));
   used = on_false (is_counted k kind) _ _ (counted_same h k kind sizes ∙ off)
       (let s : Slot = record { kind = kind; place = place } in let e = ap (λ (x : SeatSeen). rows_of x.kept s) (same refl) in dite (dec_le 1 (rows_of h.kept s)) (λ le. omega arith) (λ none. absurd (false≢true (found.1 (omega arith)))));
 }
@@ -195,7 +221,6 @@ gives_both h k l rows rows' all weight weight' claims claims' more less a b e f 
   sizes = λ j. b.sizes j ∙ a.sizes j;
   makes = b.makes ∙ a.makes;
   splits = b.splits ∙ a.splits;
-  claimed = let x = a.claimed in let y = b.claimed in omega arith;
   got = let x = a.got in let y = b.got in omega arith;
 }
 
@@ -209,12 +234,11 @@ gives_nothing h k same = record {
   sizes = λ j. ap (λ (x : SeatSeen). length (counts_of j x.kept)) same;
   makes = ap (λ (x : SeatSeen). x.makes) same;
   splits = ap (λ (x : SeatSeen). x.splits) same;
-  claimed = let e = ap (λ (x : SeatSeen). x.claimed) same in omega arith;
   got = let e = ap (λ (x : SeatSeen). length x.holder.got) same in omega arith;
 }
 
 pub gives_none : (h k : SeatSeen) → k ≡ h → GivesNone h k
-gives_none h k same = record { gives = gives_nothing h k same; kept = ap (λ (x : SeatSeen). x.kept) same }
+gives_none h k same = record { gives = gives_nothing h k same; kept = ap (λ (x : SeatSeen). x.kept) same; claimed = ap (λ (x : SeatSeen). x.claimed) same }
 
 -- a claim that found its pbuf in use gave nothing
 pub none_claimed : (h k : SeatSeen) (place : ℕ) → IsInUse h.holder place k.holder → k ≡ record h { holder = k.holder } → GivesNone h k
@@ -227,16 +251,17 @@ none_claimed h k place u same = record {
     sizes = λ j. ap (λ (x : SeatSeen). length (counts_of j x.kept)) same;
     makes = ap (λ (x : SeatSeen). x.makes) same;
     splits = ap (λ (x : SeatSeen). x.splits) same;
-    claimed = let e = ap (λ (x : SeatSeen). x.claimed) same in omega arith;
     got = let e = ap (λ (x : Known). length x.got) u.4 in omega arith;
   };
   kept = ap (λ (x : SeatSeen). x.kept) same;
+  claimed = ap (λ (x : SeatSeen). x.claimed) same;
 }
 
 pub then_none : (h k l : SeatSeen) → GivesNone h k → GivesNone k l → GivesNone h l
 then_none h k l a b = record {
   gives = gives_both h k l (λ _. 0) (λ _. 0) (λ _. 0) 0 0 0 0 0 0 a.gives b.gives (λ s. omega arith) (omega arith) (omega arith);
   kept = b.kept ∙ a.kept;
+  claimed = b.claimed ∙ a.claimed;
 }
 
 pub then_taken : (h k l : SeatSeen) (kind : Kind) (o : Owner) → GivesNone h k → IsTaken k l kind o → IsTaken h l kind o
@@ -244,7 +269,9 @@ then_taken h k l kind o a t = let same = counted_same h k kind a.gives.sizes in 
   gives = gives_both h k l (λ _. 0) (row_of o) (row_of o) 0 (weight_of o) 0 (claim_of o) (weight_of o) (claim_of o) a.gives t.gives (λ s. omega arith) (omega arith) (omega arith);
   under = subst (λ (u : TableId). IsUnder u o) a.gives.table t.under;
   adds = t.adds;
+  claimed = let x = a.claimed in let y = t.claimed in omega arith;
   rows = λ s some. let r = t.rows s some in (r.0, sym same ∙ r.1);
+  alone = λ s some. let z = t.alone s some in let e = ap (λ (x : _). rows_of x s) a.kept in omega arith;
   kept = λ off. let q = t.kept (same ∙ off) in let f = ap (λ (x : _). Rattle.pbuf_seats.specs.Kept.free_count (counts_of kind x)) a.kept in (q.0, q.1, let z = q.2 in omega arith);
   counted = λ is. t.counted (same ∙ is);
 }
@@ -261,6 +288,8 @@ taken_more h k l kind ps p a t =
       gives = gives_both h k l (rows_in ps) (row_of p.owner) (rows_in (ps ++ p ∷ [])) (weight_in ps) (weight_of p.owner) (claims_in ps) (claim_of p.owner) (weight_in (ps ++ p ∷ [])) (claims_in (ps ++ p ∷ [])) a.gives t.gives rows weight claims;
       under = All-push (λ (q : Part). IsUnder h.holder.table q.owner) ps p a.under (subst (λ (u : TableId). IsUnder u p.owner) a.gives.table t.under);
       adds = All-push (λ (q : Part). adds_of q.owner ≡ first_adds) ps p a.adds t.adds;
+      claimed = let x = a.claimed in let y = t.claimed in rw n (omega arith);
+      alone = λ s some. dite (dec_le 1 (rows_in ps s)) (λ old. a.alone s old) (λ off. let z = t.alone s (let e = rows s in omega arith) in let m = a.gives.more s in omega arith);
       rows = λ s some. dite (dec_le 1 (rows_in ps s)) (λ old. a.rows s old) (λ off. let r = t.rows s (let e = rows s in omega arith) in (r.0, sym same ∙ r.1));
       kept = λ off. let x = a.kept off in let y = t.kept (same ∙ off) in (let u = x.0 in let v = y.0 in omega arith, let u = x.1 in let v = y.1 in omega arith, let u = x.2 in let v = y.2 in omega arith);
       counted = λ is. let x = a.counted is in let y = t.counted (same ∙ is) in (let u = x.0 in let v = y.0 in omega arith, let u = x.1 in let v = y.1 in omega arith);
@@ -271,7 +300,9 @@ taken_none h k l kind ps a e = record {
   gives = gives_both h k l (rows_in ps) (λ _. 0) (rows_in ps) (weight_in ps) 0 (claims_in ps) 0 (weight_in ps) (claims_in ps) a.gives e.gives (λ s. omega arith) (omega arith) (omega arith);
   under = a.under;
   adds = a.adds;
+  claimed = let x = a.claimed in let y = e.claimed in omega arith;
   rows = a.rows;
+  alone = a.alone;
   kept = λ off. let q = a.kept off in let f = ap (λ (x : _). Rattle.pbuf_seats.specs.Kept.free_count (counts_of kind x)) e.kept in (q.0, q.1, let z = q.2 in omega arith);
   counted = a.counted;
 }
@@ -281,7 +312,9 @@ taken_first h kind = record {
   gives = gives_nothing h h refl;
   under = All-nil (λ (q : Part). IsUnder h.holder.table q.owner);
   adds = All-nil (λ (q : Part). adds_of q.owner ≡ first_adds);
+  claimed = omega arith;
   rows = λ s some. absurd (omega arith);
+  alone = λ s some. absurd (omega arith);
   kept = λ _. (refl, refl, omega arith);
   counted = λ _. (refl, omega arith);
 }
@@ -336,14 +369,9 @@ some_pbufs Pool n some = omega arith
 some_pbufs Rom n some = omega arith
 some_pbufs Ref n some = omega arith
 
-few_claims : (h k : SeatSeen) (kind : Kind) (ps : List Part) (b : Bool) → AreTaken h k kind ps → is_counted h kind ≡ b → claims_in ps ≡ cond b (length ps) 0
-few_claims h k kind ps true a e = (a.counted e).0
-few_claims h k kind ps false a e = (a.kept e).0
-
-chosen_most : (b : Bool) (n : ℕ) → cond b n 0 ≤ n
-chosen_most true n = omega arith
-chosen_most false n = omega arith
-
--- no more claims than parts
-pub claims_most : (h k : SeatSeen) (kind : Kind) (ps : List Part) → AreTaken h k kind ps → claims_in ps ≤ length ps
-claims_most h k kind ps a = let e = few_claims h k kind ps (is_counted h kind) a refl in let m = chosen_most (is_counted h kind) (length ps) in omega arith
+-- no more pbufs of POOL than parts
+pub pool_most : (kind : Kind) (n : ℕ) → pool_one kind * n ≤ n
+pool_most Ram n = omega arith
+pool_most Pool n = omega arith
+pool_most Rom n = omega arith
+pool_most Ref n = omega arith

@@ -1,12 +1,14 @@
 -- Places that are tried one after another.
-use Rattle.std.proofs.Common.{◌≡◌, ℕ, suc, ◌+◌, ◌<◌, ◌≤◌, Bool, true, false, cond, eqb, eq-eqb, eqb-true, List, [], ◌∷◌, ◌++◌, length, get_or, refl, sym, ap, ◌∙◌, subst, arith, append_assoc}
+use Rattle.std.proofs.Common.{◌≡◌, ℕ, zero, suc, ◌+◌, ◌<◌, ◌≤◌, Bool, true, false, cond, eqb, eq-eqb, eqb-true, List, [], ◌∷◌, ◌++◌, length, get_or, refl, sym, ap, ◌∙◌, subst, arith, append_assoc}
+use Rattle.std.specs.List.{All, sum_by, range_with_len}
 use Rattle.std.proofs.lemmas.Bool.{false≢true}
 use Rattle.std.proofs.lemmas.List.Sums.{sum_by-cons, sum_by-append}
-use Rattle.std.proofs.lemmas.List.Elements.{All-append, All-nil}
+use Rattle.std.proofs.lemmas.List.Elements.{All-append, All-head, All-nil, All-tail, All-weaker}
 use mathlib.Core.Logic.{dite}
 use native.Mathlib.Decide.{dec_le}
 use Rattle.lw_payload.specs.declared.kinds.Kind.{Kind}
 use Rattle.lw_payload.specs.Views.{Slot}
+use Rattle.lw_payload.proofs.FakeLaws.{sum_of_times}
 use Rattle.pbuf_counts.specs.Owners.{times}
 use Rattle.pbuf_counts.specs.Holders.{Known}
 use Rattle.pbuf_seats.specs.Kept.{counts_of, rows_of, free_count}
@@ -50,12 +52,17 @@ use_later : (l : SeatSeen) (kind : Kind) (got got' : List ℕ) (misses misses' :
 use_later l kind got got' misses misses' place =
     chosen (is_counted l kind) (is_counted l kind) _ _ _ _ refl (let a = times-both place got' got in let b = missed-both place misses' misses in omega arith) (omega arith)
 
+-- what was claimed stays claimed
+owned_later : (misses : List (ℕ × ℕ)) (got got' : List ℕ) → All (λ m. 0 < times m.0 got) misses → All (λ m. 0 < times m.0 (got' ++ got)) misses
+owned_later misses got got' owned = All-weaker (λ (m : ℕ × ℕ). 0 < times m.0 got) (λ (m : ℕ × ℕ). 0 < times m.0 (got' ++ got)) (λ m some. let b = times-both m.0 got' got in omega arith) misses owned
+
 -- claims and later ones
 claims_both : (h k l : Known) (got got' : List ℕ) (misses misses' : List (ℕ × ℕ)) → Claims h k got misses → Claims k l got' misses' → Claims h l (got' ++ got) (misses' ++ misses)
 claims_both h k l got got' misses misses' a b = record {
   gets = b.gets ∙ (ap (λ (x : List ℕ). got' ++ x) a.gets ∙ sym (append_assoc got' got h.got));
   finds = b.finds ∙ (ap (λ (x : List (ℕ × ℕ)). misses' ++ x) a.finds ∙ sym (append_assoc misses' misses h.found));
   in_use = All-append (λ (m : ℕ × ℕ). 0 < m.1) misses' misses b.in_use a.in_use;
+  owned = All-append (λ (m : ℕ × ℕ). 0 < times m.0 l.got) misses' misses b.owned (subst (λ (x : List ℕ). All (λ m. 0 < times m.0 x) misses) (sym b.gets) (owned_later misses k.got got' a.owned));
 }
 
 pub claims_none : (h k : Known) → k ≡ h → Claims h k [] []
@@ -63,6 +70,7 @@ claims_none h k same = record {
   gets = ap (λ (x : Known). x.got) same;
   finds = ap (λ (x : Known). x.found) same;
   in_use = All-nil (λ (m : ℕ × ℕ). 0 < m.1);
+  owned = All-nil (λ (m : ℕ × ℕ). 0 < times m.0 k.got);
 }
 
 pub tried_none : (h k : SeatSeen) (kind : Kind) (places from : ℕ) → k ≡ h → AreTried h k kind places from from
@@ -157,3 +165,36 @@ kept_full h k kind a off same size = none_free (counts_of kind k.kept) (λ p wit
 pub counted_full : (h k : SeatSeen) (kind : Kind) (a : AllTried h k kind) → is_counted h kind ≡ true → is_counted k kind ≡ is_counted h kind → (place : ℕ) → place < h.holder.table.words → 0 < times place a.got + missed place a.misses
 counted_full h k kind a on same place within =
     from_true (is_counted k kind) (times place a.got + missed place a.misses) (get_or (counts_of kind k.kept) place 0) (same ∙ on) (a.each place (to_true (is_counted h kind) h.holder.table.words (length (counts_of kind h.kept)) place on within))
+
+-- a miss at a place is one of a pbuf that was claimed
+missed_here : (place x more : ℕ) (got : List ℕ) (b : Bool) → eqb x place ≡ b → 0 < times x got → (0 < more → 0 < times place got) → 0 < cond {A = ℕ} b 1 0 + more → 0 < times place got
+missed_here place x more got true e owned rest some = subst (λ (p : ℕ). 0 < times p got) (eqb-true x place e) owned
+missed_here place x more got false e owned rest some = rest (omega arith)
+
+missed_owned : (place : ℕ) (got : List ℕ) (misses : List (ℕ × ℕ)) → All (λ m. 0 < times m.0 got) misses → 0 < missed place misses → 0 < times place got
+missed_owned place got [] owned some = absurd (omega arith)
+missed_owned place got (m ∷ ms) owned some =
+    let e = sum_by-cons (λ (x : ℕ × ℕ). cond {A = ℕ} (eqb x.0 place) 1 0) m ms in
+    missed_here place m.0 (missed place ms) got (eqb m.0 place) refl (All-head (λ (x : ℕ × ℕ). 0 < times x.0 got) m ms owned)
+    (λ more. missed_owned place got ms (All-tail (λ (x : ℕ × ℕ). 0 < times x.0 got) m ms owned) more) (omega arith)
+
+-- where claims were made at a place, the right to claim has claimed it
+pub claimed_there : (h k : Known) (got : List ℕ) (misses : List (ℕ × ℕ)) (place : ℕ) → Claims h k got misses → 0 < times place got + missed place misses → 0 < times place k.got
+claimed_there h k got misses place claims some =
+    let all = ap (times place) claims.gets ∙ times-both place got h.got in
+    dite (dec_le 1 (times place got)) (λ here. omega arith) (λ none. missed_owned place k.got misses claims.owned (omega arith))
+
+-- a list in which each place below n stands has n elements at least
+each_once : (f : ℕ → ℕ) (a n : ℕ) → ((i : ℕ) → a ≤ i → i < a + n → 0 < f i) → n ≤ sum_by f (range_with_len a n)
+each_once f a zero each = omega arith
+each_once f a (suc n) each =
+    let e = sum_by-cons f a (range_with_len (a + 1) n) in
+    let first = each a (omega arith) (omega arith) in
+    let rest = each_once f (a + 1) n (λ i low high. each i (omega arith) (omega arith)) in
+    omega arith
+
+pub places_law : (n : ℕ) (xs : List ℕ) → ((place : ℕ) → place < n → 0 < times place xs) → n ≤ length xs
+places_law n xs each =
+    let least = each_once (λ (i : ℕ). times i xs) 0 n (λ i low high. each i (omega arith)) in
+    let most = sum_of_times xs n in
+    omega arith

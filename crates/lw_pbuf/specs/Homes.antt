@@ -44,11 +44,16 @@ weighs_in pool Pool n = if pool == 0 then claim_weight * pbufs_of Pool n else 0
 weighs_in pool Rom n = 0
 weighs_in pool Ref n = 0
 
+-- how many pbufs of POOL there are: those that are kept, or all with atomic counts
+abbrev pub pool_places : TableId → (pool : ℕ) → ℕ
+pool_places t pool = if pool == 0 then t.words else pool
+
 -- the pools of a seat of this table that keeps so many pbufs of each kind
 abbrev pub pools_of : TableId → (ram pool rom reference rights claimed : ℕ) → Pools
 pools_of t ram pool rom reference rights claimed = record {
   family = family_of t;
   makes = makes_kind ram pool rom reference rights claimed;
+  places = λ kind. Some (of_kinds ram (pool_places t pool) rom reference kind);
   size = λ kind. kept_size (of_kinds ram pool rom reference kind);
   longest = λ kind. Some (longest_of kind);
   weighs = weighs_in pool;

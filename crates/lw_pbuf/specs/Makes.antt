@@ -11,7 +11,7 @@ use Rattle.pbuf_seats.specs.Owners.{adds_of}
 use Rattle.pbuf_seats.specs.Seats.{SeatSeen}
 use Rattle.pbuf_spans.specs.Parts.{joined, rows_in, weight_in, all_own}
 use Rattle.lw_pbuf.specs.Chains.{ChainSeen}
-use Rattle.lw_pbuf.specs.Takes.{is_counted, free_in, missed}
+use Rattle.lw_pbuf.specs.Takes.{is_counted, places_of, free_in, missed}
 
 -- so many octets a chain of the kind has at most
 abbrev pub longest_of : Kind → ℕ
@@ -45,7 +45,7 @@ denied_of Pool n m = record m { refused = m.refused + 1; last_refused = n; asked
 denied_of Rom n m = m
 denied_of Ref n m = m
 
--- a chain of these octets was made: in as few pbufs as hold them, each of the kind and with its first owner, which came from the seat h, which is k then
+-- a chain of these octets was made: in as few pbufs as hold them, each of the kind, free until then and with its first owner, which came from the seat h, which is k then
 pub record IsAlloc (h k : SeatSeen) (kind : Kind) (text : List ℕ) (c : ChainSeen) : Type 0 where
   pub octets : joined c.parts ≡ text
   pub parts : length c.parts ≡ pbufs_of kind (length text)
@@ -54,13 +54,15 @@ pub record IsAlloc (h k : SeatSeen) (kind : Kind) (text : List ℕ) (c : ChainSe
   pub table : c.table ≡ h.holder.table
   pub rows : (s : Slot) → rows_of k.kept s ≡ rows_of h.kept s + rows_in c.parts s
   pub kept : (s : Slot) → 0 < rows_in c.parts s → (s.kind ≡ kind) × (is_counted h kind ≡ false)
+  pub alone : (s : Slot) → 0 < rows_in c.parts s → rows_of h.kept s ≡ 0
+  pub free : is_counted h kind ≡ false → free_in k kind + pbufs_of kind (length text) ≡ free_in h kind
   pub weighs : weight_in c.parts ≡ claim_weight * claims_for h kind (length text)
   pub weight : k.holder.weight + weight_in c.parts ≡ h.holder.weight
   pub claims : length k.holder.got ≡ length h.holder.got + claims_for h kind (length text)
   pub enough : is_counted h kind ≡ false → pbufs_of kind (length text) ≤ free_in h kind
   pub makes : k.makes ≡ granted_of kind (length text) h.makes
 
--- A call that needed so many pbufs with atomic counts got too few: it claimed at every place, each of which it got or found in use
+-- A call that needed so many pbufs with atomic counts got too few: it claimed at every place, each of which it got or found in use; by then the right to claim has claimed each pbuf
 pub record IsExhausted (h k : Known) (needed : ℕ) : Type 0 where
   pub got : List ℕ
   pub misses : List (ℕ × ℕ)
@@ -69,14 +71,16 @@ pub record IsExhausted (h k : Known) (needed : ℕ) : Type 0 where
   pub finds : k.found ≡ later ++ (misses ++ h.found)
   pub in_use : All (λ m. 0 < m.1) misses
   pub each : (place : ℕ) → place < h.table.words → 0 < times place got + missed place misses
+  pub covered : (place : ℕ) → place < h.table.words → 0 < times place k.got
   pub few : length got < needed
 
--- a chain of n octets was refused, since too few of its pbufs had no owner; nothing stays claimed
+-- a chain of n octets was refused, since too few of its pbufs had no owner; nothing stays claimed. By then more pbufs of POOL were asked for than there are
 pub record IsDenied (h k : SeatSeen) (kind : Kind) (n : ℕ) : Type 0 where
   pub rows : (s : Slot) → rows_of k.kept s ≡ rows_of h.kept s
   pub weight : k.holder.weight ≡ h.holder.weight
   pub makes : k.makes ≡ denied_of kind n h.makes
   pub short : is_counted h kind ≡ false → free_in h kind < pbufs_of kind n
+  pub asked : kind ≡ Pool → places_of h kind < k.makes.asked
   pub exhausted : is_counted h kind ≡ true → IsExhausted h.holder k.holder (pbufs_of kind n)
 
 -- what a call for a chain of n octets leaves as it was, whatever it answers; the pbufs of POOL asked for grow by no more than it takes

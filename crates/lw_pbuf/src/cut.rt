@@ -3,7 +3,7 @@ ghost use Rattle.std.specs.Prelude.{◌≡◌, ◌+◌, ◌-◌, ◌<◌, ◌≤
 ghost use Rattle.lw_payload.specs.Views.{Slot};
 ghost use Rattle.pbuf_seats.specs.Kept.{rows_of};
 ghost use Rattle.pbuf_spans.specs.Parts.{joined, rows_in, all_own, IsChain};
-ghost use Rattle.pbuf_spans.specs.Cuts.{IsCutTo, IsRewritten};
+ghost use Rattle.pbuf_spans.specs.Cuts.{without_front, with_front, IsCutTo, IsRewritten};
 ghost use Rattle.lw_pbuf.specs.Chains.{all_parts, NoneEmpty, IsOf};
 
 use crate::chain::Chain;
@@ -17,6 +17,7 @@ impl Chain {
         requires of_seat { IsOf seat.old self.old }
         requires within { n ≤ length (joined self.old.parts) }
         ensures octets { joined self.new.parts ≡ drop n (joined self.old.parts) }
+        ensures left { self.new.parts ≡ without_front n self.old.parts }
         ensures cut { IsCutTo seat.old seat.new self.old.parts self.new.parts }
         ensures room { self.old.room ≤ self.new.room }
         ensures few { length self.new.parts ≤ length (joined self.new.parts) }
@@ -32,6 +33,7 @@ impl Chain {
         requires of_seat { IsOf seat.old self.old }
         requires within { n ≤ length (joined self.old.parts) }
         ensures octets { joined self.new.parts ≡ take (length (joined self.old.parts) - n) (joined self.old.parts) }
+        ensures left { self.new.parts ≡ with_front (length (joined self.old.parts) - n) self.old.parts }
         ensures cut { IsCutTo seat.old seat.new self.old.parts self.new.parts }
         ensures room { self.old.room ≤ self.new.room }
         ensures few { length self.new.parts ≤ length (joined self.new.parts) }
@@ -47,6 +49,7 @@ impl Chain {
         requires within { cut ≤ length (joined self.old.parts) }
         ensures behind { take cut (joined self.old.parts) ++ joined self.new.parts ≡ joined self.old.parts }
         ensures length { length (joined self.new.parts) + cut ≡ length (joined self.old.parts) }
+        ensures left { self.new.parts ≡ without_front cut self.old.parts }
         ensures cut { IsCutTo seat.old seat.new self.old.parts self.new.parts }
         ensures room { self.old.room ≤ self.new.room }
         ensures few { length self.new.parts ≤ length (joined self.new.parts) }
@@ -81,6 +84,7 @@ fn front_off(spans: &mut Vec<Span>, seat: &mut PoolSeat, n: u32)
     requires full { NoneEmpty spans.old.items }
     requires listed { (s : Slot) → rows_in (all_parts spans.old.items) s ≤ rows_of seat.old.kept s }
     ensures octets { joined (all_parts spans.new.items) ≡ drop n (joined (all_parts spans.old.items)) }
+    ensures left_parts { all_parts spans.new.items ≡ without_front n (all_parts spans.old.items) }
     ensures chain { IsChain seat.new.holder.table (all_parts spans.new.items) }
     ensures full { NoneEmpty spans.new.items }
     ensures listed { (s : Slot) → rows_in (all_parts spans.new.items) s ≤ rows_of seat.new.kept s }
@@ -102,6 +106,7 @@ fn cut_first(spans: &mut Vec<Span>, seat: &mut PoolSeat, n: u32) -> u32
     requires full { NoneEmpty spans.old.items }
     requires listed { (s : Slot) → rows_in (all_parts spans.old.items) s ≤ rows_of seat.old.kept s }
     ensures octets { drop result (joined (all_parts spans.new.items)) ≡ drop n (joined (all_parts spans.old.items)) }
+    ensures left_parts { without_front result (all_parts spans.new.items) ≡ without_front n (all_parts spans.old.items) }
     ensures within { result ≤ length (joined (all_parts spans.new.items)) }
     ensures less { result < n }
     ensures chain { IsChain seat.new.holder.table (all_parts spans.new.items) }
@@ -127,6 +132,7 @@ fn back_off(spans: &mut Vec<Span>, seat: &mut PoolSeat, n: u32) -> u32
     requires listed { (s : Slot) → rows_in (all_parts spans.old.items) s ≤ rows_of seat.old.kept s }
     ensures left { result ≡ n - length (joined (all_parts spans.old.items)) }
     ensures octets { joined (all_parts spans.new.items) ≡ take (length (joined (all_parts spans.old.items)) - n) (joined (all_parts spans.old.items)) }
+    ensures left_parts { all_parts spans.new.items ≡ with_front (length (joined (all_parts spans.old.items)) - n) (all_parts spans.old.items) }
     ensures chain { IsChain seat.new.holder.table (all_parts spans.new.items) }
     ensures full { NoneEmpty spans.new.items }
     ensures listed { (s : Slot) → rows_in (all_parts spans.new.items) s ≤ rows_of seat.new.kept s }
@@ -153,6 +159,7 @@ fn cut_last(spans: &mut Vec<Span>, mut last: Span, seat: &mut PoolSeat, n: u32) 
     requires listed { (s : Slot) → rows_in (all_parts spans.old.items ++ last) s ≤ rows_of seat.old.kept s }
     ensures left { result ≡ n - length (joined last) }
     ensures octets { result ≡ 0 → joined (all_parts spans.new.items) ≡ take (length (joined (all_parts spans.old.items ++ last)) - n) (joined (all_parts spans.old.items ++ last)) }
+    ensures left_parts { result ≡ 0 → all_parts spans.new.items ≡ with_front (length (joined (all_parts spans.old.items ++ last)) - n) (all_parts spans.old.items ++ last) }
     ensures same { 0 < result → spans.new ≡ spans.old }
     ensures chain { IsChain seat.new.holder.table (all_parts spans.new.items) }
     ensures full { NoneEmpty spans.new.items }

@@ -2,8 +2,6 @@
 #![tactic(auto)]
 
 mod chain;
-#[cfg(test)]
-mod chain_tests;
 mod copy;
 mod cut;
 mod free;
@@ -14,8 +12,6 @@ mod share;
 mod take;
 #[cfg(test)]
 mod tests;
-#[cfg(test)]
-mod thread_tests;
 
 pub use chain::Chain;
 pub use free::pbuf_free;

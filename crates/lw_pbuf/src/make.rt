@@ -3,6 +3,7 @@ ghost use Rattle.std.specs.Prelude.{◌≡◌, ◌+◌, ◌-◌, ◌^◌, ◌<�
 ghost use Rattle.std.specs.Arc.{arc_value};
 ghost use Rattle.lw_payload.specs.declared.kinds.Kind.{Kind};
 ghost use Rattle.lw_payload.specs.Views.{pbufs_of};
+ghost use Rattle.pbuf_seats.specs.Kept.{free_count};
 ghost use Rattle.lw_pbuf.specs.declared.make.AllocFault.{AllocFault};
 ghost use Rattle.lw_pbuf.specs.Chains.{IsOf};
 ghost use Rattle.lw_pbuf.specs.Takes.{is_counted};
@@ -53,7 +54,8 @@ fn longest(kind: Kind) -> usize
 // Counts a make of POOL that is made.
 #[inline(always)]
 fn granted(seat: &mut PoolSeat, kind: Kind, octets: u32)
-    requires { kind ≡ Kind.Pool → seat.old.makes.made + seat.old.makes.refused < 2 ^ 64 - 1 }
+    requires countable { kind ≡ Kind.Pool → seat.old.makes.made + seat.old.makes.refused < 2 ^ 64 - 1 }
+    requires few { kind ≡ Kind.Pool → seat.old.claimed ≤ pbufs_of Kind.Pool octets }
     ensures makes { seat.new.makes ≡ granted_of kind octets seat.old.makes }
     ensures same { seat.new ≡ record seat.old { makes = seat.new.makes; claimed = seat.new.claimed } }
     ensures settled { kind ≡ Kind.Pool → seat.new.claimed ≡ 0 }
@@ -69,12 +71,15 @@ fn granted(seat: &mut PoolSeat, kind: Kind, octets: u32)
 // Counts one that is refused.
 #[inline(always)]
 fn denied(seat: &mut PoolSeat, kind: Kind, octets: u32)
-    requires { kind ≡ Kind.Pool → seat.old.makes.made + seat.old.makes.refused < 2 ^ 64 - 1 }
+    requires countable { kind ≡ Kind.Pool → seat.old.makes.made + seat.old.makes.refused < 2 ^ 64 - 1 }
+    requires few { kind ≡ Kind.Pool → seat.old.claimed < pbufs_of Kind.Pool octets }
     ensures makes { seat.new.makes ≡ denied_of kind octets seat.old.makes }
     ensures same { seat.new ≡ record seat.old { makes = seat.new.makes; claimed = seat.new.claimed } }
     ensures settled { kind ≡ Kind.Pool → seat.new.claimed ≡ 0 }
     ensures claimed { ¬ (kind ≡ Kind.Pool) → seat.new.claimed ≡ seat.old.claimed }
     ensures grows { seat.old.makes.asked ≤ seat.new.makes.asked }
+    ensures claims { kind ≡ Kind.Pool → seat.new.makes.asked < 2 ^ 64 - 1 → length seat.new.holder.got < seat.new.makes.asked }
+    ensures kept { kind ≡ Kind.Pool → seat.new.makes.asked < 2 ^ 64 - 1 → length seat.new.kept.pool.items < free_count seat.new.kept.pool.items + seat.new.makes.asked }
 {
     match kind {
         Kind::Pool => seat.denied(octets),
@@ -139,9 +144,9 @@ fn chain_of(
         granted(seat, kind, octets);
         return Ok(Chain::of(counts, Span::of(body, pbufs), rest));
     }
+    denied(seat, kind, octets);
     give_up_all(pbufs, seat);
     seat.keep_buffer(body);
     seat.keep_counts(counts);
-    denied(seat, kind, octets);
     Err(AllocFault::PoolEmpty(kind))
 }

@@ -1,9 +1,8 @@
 //! Shares: a second chain of the same octets, with owners of its own.
-ghost use Rattle.std.specs.Prelude.{◌≡◌, ◌+◌, ◌^◌, ◌<◌, ◌≤◌, [], ◌++◌, Bool, true, false, length, vec_capacity, All, IsOk, IfOk, OnOk, OnErr};
+ghost use Rattle.std.specs.Prelude.{◌≡◌, ◌+◌, ◌^◌, ◌<◌, ◌≤◌, ◌↔◌, [], ◌++◌, Bool, true, false, length, vec_capacity, IfOk, OnOk, OnErr};
 ghost use Rattle.std.specs.Arc.{arc_value};
 ghost use Rattle.std.specs.List.{AllZip};
 ghost use Rattle.lw_payload.specs.declared.kinds.ShareFault.{ShareFault};
-ghost use Rattle.pbuf_seats.specs.Owners.{HasRoom};
 ghost use Rattle.pbuf_spans.specs.Parts.{joined, least_adds};
 ghost use Rattle.pbuf_spans.specs.Shares.{MayShare, AllShared, IsTwin};
 ghost use Rattle.lw_pbuf.specs.Chains.{all_parts, NoneEmpty, IsOf};
@@ -21,12 +20,12 @@ use std::sync::Arc;
 /// A second chain of the same octets. Each of its owners gets 15 of the adds left, where there are so many.
 pub fn pbuf_ref(c: &mut Chain, seat: &mut PoolSeat) -> Result<Chain, ShareFault>
     requires { IsOf seat.old c.old }
-    ensures shared { IfOk result (λ o. IsSharedTo true seat.old seat.new c.old c.new o) }
+    ensures shared { IfOk result (λ o. IsSharedTo true c.old c.new o) }
     ensures first { OnOk result (IsOf seat.new c.new) }
     ensures second { IfOk result (λ o. IsOf seat.new o) }
-    ensures had_one { IsOk result → 0 < least_adds c.old.parts }
-    ensures too_many { result ≡ Err ShareFault.TooMany → least_adds c.old.parts ≡ 0 }
-    ensures err { OnErr result ((c.new ≡ c.old) × (seat.new ≡ seat.old)) }
+    ensures too_many { (result ≡ Err ShareFault.TooMany) ↔ (least_adds c.old.parts ≡ 0) }
+    ensures err { OnErr result (c.new ≡ c.old) }
+    ensures same { seat.new ≡ seat.old }
 {
     c.share_with(seat, true)
 }
@@ -36,12 +35,12 @@ impl Chain {
     #[inline(always)]
     pub fn share(&mut self, seat: &mut PoolSeat) -> Result<Chain, ShareFault>
         requires { IsOf seat.old self.old }
-        ensures shared { IfOk result (λ o. IsSharedTo false seat.old seat.new self.old self.new o) }
+        ensures shared { IfOk result (λ o. IsSharedTo false self.old self.new o) }
         ensures first { OnOk result (IsOf seat.new self.new) }
         ensures second { IfOk result (λ o. IsOf seat.new o) }
-        ensures had_one { IsOk result → 0 < least_adds self.old.parts }
-        ensures too_many { result ≡ Err ShareFault.TooMany → least_adds self.old.parts ≡ 0 }
-        ensures err { OnErr result ((self.new ≡ self.old) × (seat.new ≡ seat.old)) }
+        ensures too_many { (result ≡ Err ShareFault.TooMany) ↔ (least_adds self.old.parts ≡ 0) }
+        ensures err { OnErr result (self.new ≡ self.old) }
+        ensures same { seat.new ≡ seat.old }
     {
         self.share_with(seat, false)
     }
@@ -52,10 +51,10 @@ impl Chain {
         requires table { self.old.table ≡ tail.old.table }
         requires room { length tail.old.parts ≤ self.old.room }
         requires short { length (joined self.old.parts) + length (joined tail.old.parts) < 2 ^ 32 }
-        ensures chained { OnOk result (IsChained seat.old seat.new self.old self.new tail.old tail.new) }
-        ensures had_one { IsOk result → 0 < least_adds tail.old.parts }
-        ensures too_many { result ≡ Err ShareFault.TooMany → least_adds tail.old.parts ≡ 0 }
-        ensures err { OnErr result ((self.new ≡ self.old) × (tail.new ≡ tail.old) × (seat.new ≡ seat.old)) }
+        ensures chained { OnOk result (IsChained self.old self.new tail.old tail.new) }
+        ensures too_many { (result ≡ Err ShareFault.TooMany) ↔ (least_adds tail.old.parts ≡ 0) }
+        ensures err { OnErr result ((self.new ≡ self.old) × (tail.new ≡ tail.old)) }
+        ensures same { seat.new ≡ seat.old }
     {
         let other = tail.share_with(seat, false)?;
         self.cat(other);
@@ -66,16 +65,13 @@ impl Chain {
     #[inline(always)]
     fn share_with(&mut self, seat: &mut PoolSeat, hands: bool) -> Result<Chain, ShareFault>
         requires { IsOf seat.old self.old }
-        ensures shared { IfOk result (λ o. IsSharedTo hands seat.old seat.new self.old self.new o) }
-        ensures had_one { IsOk result → 0 < least_adds self.old.parts }
-        ensures too_many { result ≡ Err ShareFault.TooMany → least_adds self.old.parts ≡ 0 }
-        ensures err { OnErr result ((self.new ≡ self.old) × (seat.new ≡ seat.old)) }
+        ensures shared { IfOk result (λ o. IsSharedTo hands self.old self.new o) }
+        ensures too_many { (result ≡ Err ShareFault.TooMany) ↔ (least_adds self.old.parts ≡ 0) }
+        ensures err { OnErr result (self.new ≡ self.old) }
+        ensures same { seat.new ≡ seat.old }
     {
         if !self.has_adds() {
             return Err(ShareFault::TooMany);
-        }
-        if !self.has_rooms(seat) {
-            return Err(ShareFault::NoMemory);
         }
         let counts = seat.counts()?;
         if !self.rest.is_empty() {
@@ -99,15 +95,6 @@ impl Chain {
         self.first.has_adds() && have_adds(self.rest.as_slice())
     }
 
-    // Whether each kept count has room for an owner of each pbuf.
-    #[inline(always)]
-    fn has_rooms(&self, seat: &PoolSeat) -> bool
-        ensures { result ≡ true → All (λ p. HasRoom (length self.now.parts) seat.now p.owner) self.now.parts }
-    {
-        let count = self.clen();
-        self.first.has_rooms(seat, count) && have_rooms(self.rest.as_slice(), seat, count)
-    }
-
     // A second chain of the same octets, where there are several spans.
     #[inline(never)]
     fn share_all(
@@ -118,8 +105,9 @@ impl Chain {
     ) -> Result<Chain, ShareFault>
         requires table { arc_value counts ≡ self.old.table }
         requires may { MayShare seat.old self.old.parts }
-        ensures shared { IfOk result (λ o. IsSharedTo hands seat.old seat.new self.old self.new o) }
-        ensures err { OnErr result ((result ≡ Err ShareFault.NoMemory) × (self.new ≡ self.old) × (seat.new ≡ seat.old)) }
+        ensures shared { IfOk result (λ o. IsSharedTo hands self.old self.new o) }
+        ensures err { OnErr result ((result ≡ Err ShareFault.NoMemory) × (self.new ≡ self.old)) }
+        ensures same { seat.new ≡ seat.old }
     {
         let alloc = *self.rest.allocator();
         let mut rest = Vec::with_capacity(alloc, self.rest.len())?;
@@ -142,18 +130,6 @@ fn have_adds(spans: &[Span]) -> bool
 {
     for span in spans {
         if !span.has_adds() {
-            return false;
-        }
-    }
-    true
-}
-
-// Whether each kept count has room for so many owners more.
-fn have_rooms(spans: &[Span], seat: &PoolSeat, more: u32) -> bool
-    ensures { result ≡ true → All (λ p. HasRoom more seat.now p.owner) (all_parts spans.now) }
-{
-    for span in spans {
-        if !span.has_rooms(seat, more) {
             return false;
         }
     }
@@ -184,9 +160,10 @@ fn share_spans(
     requires may { MayShare seat.old (all_parts spans.old) }
     requires none { others.old.items ≡ [] }
     requires room { length spans.old ≤ vec_capacity others.old }
-    ensures shared { AllShared hands seat.old seat.new (all_parts spans.old) (all_parts spans.new) (all_parts others.new.items) }
+    ensures shared { AllShared hands (all_parts spans.old) (all_parts spans.new) (all_parts others.new.items) }
     ensures full { NoneEmpty spans.old → NoneEmpty spans.new × NoneEmpty others.new.items }
     ensures capacity { vec_capacity others.new ≡ vec_capacity others.old }
+    ensures same { seat.new ≡ seat.old }
 {
     let mut i = 0;
     for twin in twins {

@@ -62,7 +62,7 @@ fn take_at(seat: &mut PoolSeat, kind: Kind, counted: bool, place: u32) -> Option
     requires there { place < places_of seat.old kind }
     requires right { is_counted seat.old kind ≡ true → seat.old.holder.rights ≡ 1 }
     requires countable { kind ≡ Kind.Pool → seat.old.makes.made + seat.old.makes.refused < 2 ^ 64 - 1 }
-    requires few { is_counted seat.old kind ≡ true → seat.old.claimed + 1 < 2 ^ 20 }
+    requires few { kind ≡ Kind.Pool → seat.old.claimed + 1 < 2 ^ 20 }
     ensures some { IfSome result (λ o. IsTaken seat.old seat.new kind o) }
     ensures none { IsNone result → GivesNone seat.old seat.new }
     ensures tried { IsTried seat.old seat.new kind place }
@@ -125,7 +125,7 @@ fn take_from(
     requires below { turn.old ≤ end }
     requires right { is_counted seat.old kind ≡ true → seat.old.holder.rights ≡ 1 }
     requires countable { kind ≡ Kind.Pool → seat.old.makes.made + seat.old.makes.refused < 2 ^ 64 - 1 }
-    requires few { is_counted seat.old kind ≡ true → seat.old.claimed + 1 < 2 ^ 20 }
+    requires few { kind ≡ Kind.Pool → seat.old.claimed + 1 < 2 ^ 20 }
     ensures some { IfSome result (λ o. IsTaken seat.old seat.new kind o) }
     ensures none { IsNone result → GivesNone seat.old seat.new }
     ensures tried { AreTried seat.old seat.new kind (places_of seat.old kind) turn.old turn.new }
@@ -151,11 +151,12 @@ pub(crate) fn fill(seat: &mut PoolSeat, kind: Kind, octets: &[u8], pbufs: &mut V
     requires small { length octets.now ≤ 65535 }
     requires right { is_counted seat.old kind ≡ true → seat.old.holder.rights ≡ 1 }
     requires countable { kind ≡ Kind.Pool → seat.old.makes.made + seat.old.makes.refused < 2 ^ 64 - 1 }
-    requires few { is_counted seat.old kind ≡ true → seat.old.claimed + pbufs_of kind (length octets.now) < 2 ^ 20 }
+    requires few { kind ≡ Kind.Pool → seat.old.claimed + pbufs_of kind (length octets.now) < 2 ^ 20 }
     ensures taken { AreTaken seat.old seat.new kind (parts_of true octets.now pbufs.new.items) }
     ensures some { All (λ p. 0 < p.len) pbufs.new.items }
     ensures all { result ≡ true → (lens pbufs.new.items ≡ length octets.now) × (length pbufs.new.items ≡ pbufs_of kind (length octets.now)) }
     ensures tried { result ≡ false → AllTried seat.old seat.new kind × (length pbufs.new.items < pbufs_of kind (length octets.now)) }
+    ensures places { places_of seat.old kind < 2 ^ 32 }
 {
     let size = body_size(kind);
     let counted = counted(seat, kind);

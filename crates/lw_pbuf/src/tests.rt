@@ -1,18 +1,23 @@
-//! Chains of one thread.
-ghost use Rattle.std.specs.Prelude.{◌≡◌, ◌+◌, ◌-◌, ◌<◌, ◌^◌, IfOk};
+//! A chain from its make to its end, and chains that two threads give up at once.
+ghost use Rattle.std.specs.Prelude.{◌≡◌, ◌+◌, ◌-◌, ◌<◌, ◌^◌, length, IfOk, OnOk};
 ghost use Rattle.lw_pbuf.specs.Chains.{IsOf};
+ghost use Rattle.pbuf_seats.specs.Kept.{counts_of};
+ghost use Rattle.lw_payload.specs.declared.kinds.Kind.{Kind};
 
-use crate::{AllocFault, Chain, PoolSeat, pbuf_alloc, pbuf_free};
+use crate::{Chain, PoolSeat, pbuf_alloc, pbuf_free, pbuf_ref};
 use lw_base::Limits;
 use lw_payload::Kind;
 use std::alloc::Global;
 use std::test::Fail;
+use std::thread::join;
 
-const DEFAULT: Limits = Limits {
-    ram: 256,
-    pool: 256,
-    rom: 16,
-    reference: 64,
+const ROUNDS: u32 = 100;
+
+const LIMITS: Limits = Limits {
+    ram: 4,
+    pool: 8,
+    rom: 4,
+    reference: 4,
     mailbox: 8,
     tcpip: 64,
     descriptors: 32,
@@ -22,74 +27,67 @@ const DEFAULT: Limits = Limits {
     variables: 64,
 };
 
-#[test]
-fn a_chain_of_pool_has_pbufs_of_512(rt: HostRuntime) -> Result<(), Fail> {
-    let mut seat = PoolSeat::new(rt.alloc(), &DEFAULT, false)?;
-    let octets = vec![in rt.alloc(); 7u8; 1_200]?;
-    let chain = pbuf_alloc(rt.alloc(), &mut seat, Kind::Pool, &octets)?;
-    assert!(rt; chain.clen() == 3);
-    assert!(rt; chain.tot_len(0) == 1_200);
-    assert!(rt; chain.tot_len(1) == 688);
-    assert!(rt; chain.tot_len(2) == 176);
-    assert!(rt; pbuf_free(chain, &mut seat) == 3);
-    assert!(rt; seat.free().pool == 256);
-    Ok(())
-}
-
-#[test]
-fn ram_has_at_most_1600_octets(rt: HostRuntime) -> Result<(), Fail> {
-    let mut seat = PoolSeat::new(rt.alloc(), &DEFAULT, false)?;
-    let octets = vec![in rt.alloc(); 7u8; 1_601]?;
-    let chain = pbuf_alloc(rt.alloc(), &mut seat, Kind::Ram, &octets);
-    assert!(rt; matches!(chain, Err(AllocFault::TooLong)));
-    Ok(())
-}
-
-#[test]
-fn the_seventeenth_of_rom_is_refused(rt: HostRuntime) -> Result<(), Fail> {
-    let mut seat = PoolSeat::new(rt.alloc(), &DEFAULT, false)?;
-    for _ in 0..16u8 {
-        pbuf_alloc(rt.alloc(), &mut seat, Kind::Rom, b"rom")?;
-    }
-    let chain = pbuf_alloc(rt.alloc(), &mut seat, Kind::Rom, b"rom");
-    assert!(rt; matches!(chain, Err(AllocFault::PoolEmpty(Kind::Rom))));
-    assert!(rt; seat.free().rom == 0);
-    Ok(())
-}
-
-// A chain of POOL whose pbufs two makes took: 604 octets in three of them.
-fn two_spans(alloc: Global, seat: &mut PoolSeat) -> Result<Chain, Fail>
-    requires right { seat.old.holder.rights ≡ 1 }
-    requires countable { seat.old.makes.made + seat.old.makes.refused < 2 ^ 64 - 2 }
-    requires settled { seat.old.claimed ≡ 0 }
-    ensures { IfOk result (λ c. IsOf seat.new c) }
+// Frees a chain, and answers how many lives of pbufs ended by it.
+fn give_up(mut seat: PoolSeat, c: Chain) -> (PoolSeat, u32)
+    requires { IsOf seat c }
+    ensures table { result.0.holder.table ≡ seat.holder.table }
+    ensures none_kept { ((k : Kind) → length (counts_of k seat.kept) ≡ 0) → (k : Kind) → length (counts_of k result.0.kept) ≡ 0 }
 {
-    let octets = vec![in alloc; 7u8; 600]?;
-    let mut first = pbuf_alloc(alloc, seat, Kind::Pool, &octets)?;
-    let second = pbuf_alloc(alloc, seat, Kind::Pool, b"tail")?;
-    first.room(1)?;
-    first.cat(second);
-    Ok(first)
+    let ended = pbuf_free(c, &mut seat);
+    (seat, ended)
+}
+
+// Makes a chain of POOL and shares it. Each seat may give up either of the two.
+fn make_two(
+    alloc: Global,
+    core: &PoolSeat,
+    feeder: &mut PoolSeat,
+    octets: &[u8],
+) -> Result<(Chain, Chain), Fail>
+    requires table { core.now.holder.table ≡ feeder.old.holder.table }
+    requires right { feeder.old.holder.rights ≡ 1 }
+    requires none_kept { (k : Kind) → length (counts_of k feeder.old.kept) ≡ 0 }
+    requires countable { feeder.old.makes.made + feeder.old.makes.refused < 2 ^ 64 - 1 }
+    requires settled { feeder.old.claimed ≡ 0 }
+    ensures first { IfOk result (λ r. IsOf feeder.new r.0) }
+    ensures second { IfOk result (λ r. IsOf core.now r.1) }
+    ensures table { OnOk result (feeder.new.holder.table ≡ feeder.old.holder.table) }
+    ensures none_kept { OnOk result ((k : Kind) → length (counts_of k feeder.new.kept) ≡ 0) }
+{
+    let mut first = pbuf_alloc(alloc, feeder, Kind::Pool, octets)?;
+    let second = pbuf_ref(&mut first, feeder)?;
+    Ok((first, second))
 }
 
 #[test]
-fn cat_hands_the_owners_over(rt: HostRuntime) -> Result<(), Fail> {
-    let mut seat = PoolSeat::new(rt.alloc(), &DEFAULT, true)?;
-    let chain = two_spans(rt.alloc(), &mut seat)?;
-    assert!(rt; chain.tot_len(1) == 92);
-    assert!(rt; pbuf_free(chain, &mut seat) == 3);
-    assert!(rt; seat.free().pool == 256);
+fn each_life_ends_in_one_of_two_threads(rt: HostRuntime) -> Result<(), Fail> {
+    let octets = vec![in rt.alloc(); 7u8; 1_200]?;
+    for _ in 0..ROUNDS {
+        let mut core = PoolSeat::new(rt.alloc(), &LIMITS, false)?;
+        let mut feeder = core.split(rt.alloc(), true)?;
+        let (first, second) = make_two(rt.alloc(), &core, &mut feeder, &octets)?;
+        let ((mut core, a), (feeder, b)) = join(
+            &rt,
+            || give_up(core, second),
+            || give_up(feeder, first),
+        );
+        assert!(rt; a.saturating_add(b) == 3);
+        core.join(feeder);
+        assert!(rt; core.free().pool == 8);
+    }
     Ok(())
 }
 
 #[test]
-fn a_share_of_two_spans_has_all_octets(rt: HostRuntime) -> Result<(), Fail> {
-    let mut seat = PoolSeat::new(rt.alloc(), &DEFAULT, true)?;
-    let mut chain = two_spans(rt.alloc(), &mut seat)?;
-    let other = chain.share(&mut seat)?;
-    assert!(rt; other.tot_len(0) == 604);
-    assert!(rt; other.tot_len(2) == 4);
-    assert!(rt; pbuf_free(other, &mut seat) == 0);
-    assert!(rt; pbuf_free(chain, &mut seat) == 3);
+fn a_chain_is_made_cut_read_and_given_up(rt: HostRuntime) -> Result<(), Fail> {
+    let mut seat = PoolSeat::new(rt.alloc(), &LIMITS, true)?;
+    let mut chain = pbuf_alloc(rt.alloc(), &mut seat, Kind::Ram, b"octets")?;
+    chain.header(&mut seat, 2);
+    chain.cut_back(&mut seat, 1);
+    let mut out = [0u8; 2];
+    chain.copy_at(1, &mut out);
+    assert!(rt; out[0] == b'e');
+    assert!(rt; out[1] == b't');
+    assert!(rt; pbuf_free(chain, &mut seat) == 1);
     Ok(())
 }

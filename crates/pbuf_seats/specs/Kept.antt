@@ -1,4 +1,4 @@
--- The counts of kept pbufs: each count is how many rows were given out of that pbuf.
+-- The counts of kept pbufs. A pbuf has 65,535 rows; its count is how many of them were given out, and it is free where none is.
 use Rattle.std.specs.Prelude.{ℕ, ◌+◌, ◌==◌, Bool, ◌&&◌, cond, count_by, List, slice_index}
 use Rattle.lw_payload.specs.declared.kinds.Kind.{Kind}
 use Rattle.lw_payload.specs.declared.kinds.Kind.TheVariants.{Ram, Pool, Rom, Ref}
@@ -27,9 +27,13 @@ number_of Ref = 3
 abbrev pub is_at : Kind → ℕ → Slot → Bool
 is_at kind place s = (number_of s.kind == number_of kind) && (s.place == place)
 
--- one row, of the pbuf of this kind at this place
-abbrev pub row_at : Kind → ℕ → Slot → ℕ
-row_at kind place s = cond (is_at kind place s) 1 0
+-- n rows of the pbuf of this kind at this place
+abbrev pub rows_at : Kind → (place n : ℕ) → Slot → ℕ
+rows_at kind place n s = cond (is_at kind place s) n 0
+
+-- so many rows a pbuf has: its first owner has them all
+abbrev pub pbuf_rows : ℕ
+pbuf_rows = 65535
 
 -- how many of the counts are 0
 abbrev pub free_count : List ℕ → ℕ

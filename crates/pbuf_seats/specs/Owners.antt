@@ -1,21 +1,21 @@
 -- What an owner of a pbuf is, and how it is given up.
-use Rattle.std.specs.Prelude.{◌≡◌, ℕ, ◌+◌, ◌-◌, ◌^◌, ◌<◌, ◌↔◌, Bool, true, cond, ◌∷◌, length}
+use Rattle.std.specs.Prelude.{◌≡◌, ℕ, ◌+◌, ◌-◌, ◌≤◌, ◌↔◌, Bool, true, cond, ◌∷◌, length}
 use Rattle.lw_payload.specs.Views.{Slot}
 use Rattle.pbuf_counts.specs.Owners.{IsCount}
 use Rattle.pbuf_counts.specs.Holders.{Known, owner_of, view_of}
 use Rattle.pbuf_seats.specs.declared.owner.Owner.{Owner}
 use Rattle.pbuf_seats.specs.declared.owner.Owner.TheVariants.{Kept, Counted}
 use Rattle.pbuf_seats.specs.declared.owner.Row.{Row}
-use Rattle.pbuf_seats.specs.Kept.{rows_of, row_at, all_free}
+use Rattle.pbuf_seats.specs.Kept.{rows_of, rows_at, all_free}
 use Rattle.pbuf_seats.specs.Seats.{SeatSeen}
 
 -- the slot of a row
 abbrev pub slot_of : Row → Slot
 slot_of r = record { kind = r.kind; place = r.place }
 
--- the row that an owner is: none where the count is atomic
+-- the rows that an owner has, one for itself and one for each owner that it may add: none where the count is atomic
 abbrev pub row_of : Owner → Slot → ℕ
-row_of (Kept r) s = row_at r.kind r.place s
+row_of (Kept r) s = rows_at r.kind r.place (r.adds + 1) s
 row_of (Counted h) s = 0
 
 -- what an owner weighs: nothing where the pbuf is kept
@@ -28,9 +28,9 @@ abbrev pub adds_of : Owner → ℕ
 adds_of (Kept r) = r.adds
 adds_of (Counted h) = h.adds
 
--- the owner may be given up to this seat: its row is one that the seat gave out, or it is an owner under the seat's atomic counts
+-- the owner may be given up to this seat: its rows are among those that the seat gave out, or it is an owner under the seat's atomic counts
 abbrev pub IsOwner : SeatSeen → Owner → Type 0
-IsOwner seat (Kept r) = 0 < rows_of seat.kept (slot_of r)
+IsOwner seat (Kept r) = r.adds + 1 ≤ rows_of seat.kept (slot_of r)
 IsOwner seat (Counted h) = h ≡ owner_of seat.holder.table h.place h.adds h.weight
 
 -- The owner h was given up to the holder k, which is k' then: it found the pbuf's count, and is the last where that was 1
@@ -42,11 +42,6 @@ TakesBack k h last k' = (n : ℕ) × IsCount h.place (view_of h) n × ((last ≡
 abbrev pub GaveUp : SeatSeen → Owner → Bool → SeatSeen → Type 0
 GaveUp seat (Kept r) last seat' = ((last ≡ true) ↔ (rows_of seat'.kept (slot_of r) ≡ 0)) × (seat' ≡ record seat { kept = seat'.kept })
 GaveUp seat (Counted h) last seat' = TakesBack seat.holder h last seat'.holder × (seat' ≡ record seat { holder = seat'.holder })
-
--- there is room for so many owners more in the count of a kept pbuf; an atomic count has room wherever adds are left
-abbrev pub HasRoom : ℕ → SeatSeen → Owner → Type 0
-HasRoom more seat (Kept r) = rows_of seat.kept (slot_of r) + more < 2 ^ 32
-HasRoom more seat (Counted h) = Unit {0}
 
 -- what an owner is once it was shared, and so many of its adds were handed on
 abbrev pub sharing : ℕ → Owner → Owner

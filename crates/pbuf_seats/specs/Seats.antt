@@ -7,7 +7,7 @@ use Rattle.pbuf_seats.specs.Kept.{free_count}
 use Rattle.pbuf_seats.specs.declared.kept.Kept.{Kept}
 use Rattle.pbuf_seats.specs.declared.makes.Makes.{Makes}
 
--- a seat: its holder of the atomic counts, the counts of its kept pbufs, what it counts of makes, how often it may still split, and its claims since a make was counted last
+-- a seat: its holder of the atomic counts, the counts of its kept pbufs, what it counts of makes, how often it may still split, and the pbufs of POOL that it took since a make was counted last
 pub record SeatSeen : Type 0 where
   pub holder : Known
   pub kept : Kept
@@ -40,13 +40,16 @@ pub record IsLookedOver (h k : Known) (m n : ℕ) : Type 0 where
 abbrev pub make_weight : ℕ
 make_weight = 68719476736
 
--- A seat's holder is of its counts, owns nothing, and weighs enough for all splits and makes to come
+-- A seat's holder is of its counts, owns nothing, and weighs enough for all splits and makes to come. As far as the pbufs of POOL asked for are counted, it took no more:
+-- neither by claims, nor of those that it keeps
 pub record IsSeat (counts : TableId) (seat : SeatSeen) : Type 0 where
   pub home : seat.holder.table ≡ counts
   pub idle : seat.holder.owners ≡ 0
   pub few : seat.makes.made + seat.makes.refused < 2 ^ 64
   pub stocked : seat.splits * part_weight + (2 ^ 64 - (seat.makes.made + seat.makes.refused)) * make_weight ≤ seat.holder.weight + seat.claimed * claim_weight
   pub claims : seat.claimed < 2 ^ 20
+  pub asked : seat.makes.asked < 2 ^ 64 - 1 → length seat.holder.got ≤ seat.makes.asked + seat.claimed
+  pub pool : seat.makes.asked < 2 ^ 64 - 1 → length seat.kept.pool.items ≤ free_count seat.kept.pool.items + (seat.makes.asked + seat.claimed)
 
 -- The claim of a pbuf found that it is in use: its count was n, and the right to claim has claimed it before
 abbrev pub IsInUse : Known → ℕ → Known → Type 0

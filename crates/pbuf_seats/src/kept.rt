@@ -1,12 +1,15 @@
-//! The counts of kept pbufs, as plain numbers.
-ghost use Rattle.std.specs.Prelude.{◌≡◌, ℕ, ◌+◌, ◌-◌, ◌^◌, ◌<◌, ◌↔◌, length, vec_len, replicate, slice_index, slice_set, count_by, ◌==◌, if◌then◌else◌, IsTrue, IfOk};
-ghost use Rattle.lw_payload.specs.Views.{Slot};
+//! The counts of kept pbufs, as plain numbers: how many of its rows were given out of each.
+ghost use Rattle.std.specs.Prelude.{◌≡◌, ℕ, ◌+◌, ◌-◌, ◌^◌, ◌<◌, ◌≤◌, ◌↔◌, length, vec_len, replicate, slice_index, slice_set, count_by, ◌==◌, if◌then◌else◌, IsTrue, IfOk};
+ghost use Rattle.lw_payload.specs.Views.{Slot, pool_one};
 ghost use Rattle.lw_payload.specs.declared.kinds.Kind.{Kind};
 
 use lw_payload::Kind;
 use std::alloc::{AllocError, Global};
 
-/// How many owners each pbuf of each kept kind has, by its place. A kind that is not kept has none.
+/// So many rows a pbuf has.
+const PBUF_ROWS: u32 = 65_535;
+
+/// How many rows of each pbuf of each kept kind its owners have, by its place. A kind that is not kept has no pbuf.
 #[derive(Drop)]
 pub struct Kept {
     pub ram: Vec<u32>,
@@ -17,7 +20,7 @@ pub struct Kept {
 }
 
 impl Kept {
-    ghost use Rattle.pbuf_seats.specs.Kept.{counts_of, rows_of, row_at, free_count, all_free};
+    ghost use Rattle.pbuf_seats.specs.Kept.{counts_of, rows_of, rows_at, pbuf_rows, free_count, all_free};
 
     /// So many pbufs of each kind, none of which has an owner.
     pub fn new(
@@ -61,7 +64,7 @@ impl Kept {
         self.of(kind).iter().filter(|n| **n == 0).count() as u32
     }
 
-    /// How many owners the pbuf at this place has; none where there is no such place.
+    /// How many rows of the pbuf at this place its owners have; none where there is no such place.
     #[inline(always)]
     pub fn count(&self, kind: Kind, place: u32) -> u32
         ensures { result ≡ rows_of self.now (record { kind = kind; place = place }) }
@@ -69,14 +72,15 @@ impl Kept {
         self.of(kind).get(place as usize).copied().unwrap_or(0)
     }
 
-    /// Takes the pbuf at this place, which has no owner.
+    /// Takes the pbuf at this place, which has no owner, with all its rows.
     #[inline(always)]
     pub fn take(&mut self, kind: Kind, place: u32)
         requires there { place < length (counts_of kind self.old) }
         requires free { rows_of self.old (record { kind = kind; place = place }) ≡ 0 }
-        ensures owned { rows_of self.new (record { kind = kind; place = place }) ≡ 1 }
-        ensures rows { (s : Slot) → rows_of self.new s ≡ rows_of self.old s + row_at kind place s }
+        ensures owned { rows_of self.new (record { kind = kind; place = place }) ≡ pbuf_rows }
+        ensures rows { (s : Slot) → rows_of self.new s ≡ rows_of self.old s + rows_at kind place pbuf_rows s }
         ensures free { free_count (counts_of kind self.new) + 1 ≡ free_count (counts_of kind self.old) }
+        ensures pool { free_count (counts_of Kind.Pool self.new) + pool_one kind ≡ free_count (counts_of Kind.Pool self.old) }
         ensures sizes { (k : Kind) → length (counts_of k self.new) ≡ length (counts_of k self.old) }
     {
         match kind {
@@ -87,71 +91,46 @@ impl Kept {
         }
     }
 
-    /// Gives an owner of the pbuf at this place up, and tells whether it was the last.
+    /// Takes the rows of an owner back that may add so many, and tells whether they were the last.
     #[inline(always)]
-    pub fn give(&mut self, kind: Kind, place: u32) -> bool
-        requires owned { 0 < rows_of self.old (record { kind = kind; place = place }) }
-        ensures rows { (s : Slot) → rows_of self.new s + row_at kind place s ≡ rows_of self.old s }
+    pub fn give(&mut self, kind: Kind, place: u32, adds: u32) -> bool
+        requires owned { adds + 1 ≤ rows_of self.old (record { kind = kind; place = place }) }
+        ensures rows { (s : Slot) → rows_of self.new s + rows_at kind place (adds + 1) s ≡ rows_of self.old s }
         ensures last { IsTrue result ↔ (rows_of self.new (record { kind = kind; place = place }) ≡ 0) }
         ensures free { all_free self.new ≡ all_free self.old + (if result then 1 else 0) }
+        ensures pool { free_count (counts_of Kind.Pool self.old) ≤ free_count (counts_of Kind.Pool self.new) }
         ensures sizes { (k : Kind) → length (counts_of k self.new) ≡ length (counts_of k self.old) }
     {
         match kind {
-            Kind::Ram => give(&mut self.ram, place),
-            Kind::Pool => give(&mut self.pool, place),
-            Kind::Rom => give(&mut self.rom, place),
-            Kind::Ref => give(&mut self.reference, place),
-        }
-    }
-
-    /// Adds an owner of the pbuf at this place, which has one already.
-    #[inline(always)]
-    pub fn add(&mut self, kind: Kind, place: u32)
-        requires owned { 0 < rows_of self.old (record { kind = kind; place = place }) }
-        requires small { rows_of self.old (record { kind = kind; place = place }) + 1 < 2 ^ 32 }
-        ensures rows { (s : Slot) → rows_of self.new s ≡ rows_of self.old s + row_at kind place s }
-        ensures count { rows_of self.new (record { kind = kind; place = place }) ≡ rows_of self.old (record { kind = kind; place = place }) + 1 }
-        ensures sizes { (k : Kind) → length (counts_of k self.new) ≡ length (counts_of k self.old) }
-    {
-        match kind {
-            Kind::Ram => add(&mut self.ram, place),
-            Kind::Pool => add(&mut self.pool, place),
-            Kind::Rom => add(&mut self.rom, place),
-            Kind::Ref => add(&mut self.reference, place),
+            Kind::Ram => give(&mut self.ram, place, adds),
+            Kind::Pool => give(&mut self.pool, place, adds),
+            Kind::Rom => give(&mut self.rom, place, adds),
+            Kind::Ref => give(&mut self.reference, place, adds),
         }
     }
 }
 
-// One owner less of the pbuf at this place; whether it was the last.
+// The rows of an owner that may add so many fewer; whether they were the last.
 #[inline(always)]
-fn give(counts: &mut [u32], place: u32) -> bool
-    requires owned { 0 < slice_index counts.old place }
-    ensures counts { counts.new ≡ slice_set counts.old place (slice_index counts.old place - 1) }
-    ensures last { IsTrue result ↔ (slice_index counts.old place ≡ 1) }
+fn give(counts: &mut [u32], place: u32, adds: u32) -> bool
+    requires owned { adds + 1 ≤ slice_index counts.old place }
+    ensures counts { counts.new ≡ slice_set counts.old place (slice_index counts.old place - (adds + 1)) }
+    ensures last { IsTrue result ↔ (slice_index counts.old place ≡ adds + 1) }
     ensures free { count_by (λ n. n == 0) counts.new ≡ count_by (λ n. n == 0) counts.old + (if result then 1 else 0) }
 {
-    let place = place as usize;
-    counts[place] -= 1;
-    counts[place] == 0
+    let count = &mut counts[place as usize];
+    *count -= adds;
+    *count -= 1;
+    *count == 0
 }
 
-// One owner more.
-#[inline(always)]
-fn add(counts: &mut [u32], place: u32)
-    requires owned { 0 < slice_index counts.old place }
-    requires small { slice_index counts.old place + 1 < 2 ^ 32 }
-    ensures { counts.new ≡ slice_set counts.old place (slice_index counts.old place + 1) }
-{
-    counts[place as usize] += 1;
-}
-
-// The first owner.
+// All rows of the pbuf at this place.
 #[inline(always)]
 fn take(counts: &mut [u32], place: u32)
     requires there { place < length counts.old }
     requires free { slice_index counts.old place ≡ 0 }
-    ensures counts { counts.new ≡ slice_set counts.old place 1 }
+    ensures counts { counts.new ≡ slice_set counts.old place PBUF_ROWS }
     ensures free { count_by (λ n. n == 0) counts.new + 1 ≡ count_by (λ n. n == 0) counts.old }
 {
-    counts[place as usize] = 1;
+    counts[place as usize] = PBUF_ROWS;
 }

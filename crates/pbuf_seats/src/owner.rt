@@ -2,7 +2,8 @@
 use lw_payload::Kind;
 use pbuf_counts::Holder;
 
-/// An owner of a kept pbuf: its kind, its place among those of that kind, and how many owners this one may still add.
+/// An owner of a kept pbuf: its kind, its place among those of that kind, and how many owners this one may still add. It has one of the pbuf's rows for itself, and one for each of
+/// these.
 #[derive(Clone, Copy, Debug, PartialEq, Eq)]
 pub struct Row {
     pub kind: Kind,

@@ -1,12 +1,12 @@
 //! A seat: what pbufs are taken from, and given up to.
 ghost use Rattle.std.specs.Prelude.{◌≡◌, ℕ, ◌+◌, ◌-◌, ◌^◌, ◌<◌, ◌≤◌, [], true, false, length, vec_capacity, replicate, ◌∷◌, ◌↔◌, min, if◌then◌else◌, All, IsTrue, IsSome, IsNone, IfSome, IfOk, OnOk, OnErr};
 ghost use Rattle.std.specs.Arc.{arc_value};
-ghost use Rattle.lw_payload.specs.Views.{Slot, pbufs_of};
+ghost use Rattle.lw_payload.specs.Views.{Slot, pbufs_of, pool_one};
 ghost use Rattle.lw_payload.specs.declared.kinds.Kind.{Kind};
 ghost use Rattle.pbuf_counts.specs.Owners.{whole, claim_weight, first_adds};
 ghost use Rattle.pbuf_counts.specs.Holders.{idle_of, owner_of};
 ghost use Rattle.pbuf_seats.specs.Kept.{counts_of, rows_of, free_count};
-ghost use Rattle.pbuf_seats.specs.Owners.{IsOwner, GaveUp, HasRoom, sharing, share_of, ended_at, row_of, weight_of, adds_of};
+ghost use Rattle.pbuf_seats.specs.Owners.{IsOwner, GaveUp, sharing, share_of, ended_at, row_of, weight_of, adds_of};
 ghost use Rattle.pbuf_seats.specs.Seats.{IsParted, joined, IsLookedOver, IsInUse};
 ghost use Rattle.pbuf_seats.specs.declared.owner.Owner.{Owner};
 
@@ -116,7 +116,7 @@ impl PoolSeat {
         ensures parted { IfOk result (λ s. IsParted claims self.old.holder self.new.holder s.holder) }
         ensures first { IfOk result (λ _. self.new ≡ record self.old { holder = self.new.holder; splits = self.old.splits - 1 }) }
         ensures none_kept { IfOk result (λ s. (k : Kind) → length (counts_of k s.kept) ≡ 0) }
-        ensures makes { IfOk result (λ s. s.makes ≡ record { made = 0; refused = 0; last_refused = 0; asked = if claims then self.old.makes.asked else 0 }) }
+        ensures makes { IfOk result (λ s. s.makes ≡ record { made = 0; refused = 0; last_refused = 0; asked = if claims then min (self.old.makes.asked + self.old.claimed) (2 ^ 64 - 1) else 0 }) }
         ensures no_splits { IfOk result (λ s. s.splits ≡ 0) }
         ensures none_claimed { IfOk result (λ s. s.claimed ≡ 0) }
         ensures err { OnErr result (self.new ≡ self.old) }
@@ -127,14 +127,13 @@ impl PoolSeat {
         let spare = Spare::new(alloc, SPARE, LONG)?;
         let holder = self.counts.part(&mut self.holder, claims);
         self.splits -= 1;
-        let asked = if claims { self.makes.asked } else { 0 };
         Ok(PoolSeat {
             counts,
             spare_counts,
             holder,
             kept,
             makes: Makes {
-                asked,
+                asked: if claims { self.asked() } else { 0 },
                 ..Makes::NONE
             },
             splits: 0,
@@ -144,25 +143,33 @@ impl PoolSeat {
         })
     }
 
-    /// Takes in another seat, which keeps no pbufs. The numbers of makes stay, but for those asked, which are added.
+    // The pbufs of POOL asked for: those of makes that were counted, and those taken since.
+    fn asked(&self) -> u64
+        ensures { result ≡ min (self.now.makes.asked + self.now.claimed) (2 ^ 64 - 1) }
+    {
+        self.makes.asked.saturating_add(u64::from(self.claimed))
+    }
+
+    /// Takes in another seat, which keeps no pbufs. The numbers of makes stay, but for the pbufs asked for, which are added.
     pub fn join(&mut self, o: PoolSeat)
         requires table { o.holder.table ≡ self.old.holder.table }
         requires none_kept { (k : Kind) → length (counts_of k o.kept) ≡ 0 }
-        ensures { self.new ≡ record self.old { holder = joined self.old.holder o.holder; makes = record self.old.makes { asked = min (self.old.makes.asked + o.makes.asked) (2 ^ 64 - 1) } } }
+        ensures { self.new ≡ record self.old { holder = joined self.old.holder o.holder; makes = record self.old.makes { asked = min (self.old.makes.asked + min (o.makes.asked + o.claimed) (2 ^ 64 - 1)) (2 ^ 64 - 1) } } }
     {
+        let asked = o.asked();
         let PoolSeat {
             counts: _counts,
             spare_counts: _spare_counts,
             holder,
             kept: _kept,
-            makes,
+            makes: _,
             splits: _,
             claimed: _,
             spare: _spare,
             hints: _hints,
         } = o;
         self.counts.join(&mut self.holder, holder);
-        self.makes.asked = self.makes.asked.saturating_add(makes.asked);
+        self.makes.asked = self.makes.asked.saturating_add(asked);
     }
 
     /// How many pbufs have no owner. Where POOL is not kept it looks at each of its pbufs once.
@@ -230,19 +237,21 @@ impl PoolSeat {
     #[inline(always)]
     pub fn take(&mut self, kind: Kind, place: u32) -> Option<Owner>
         requires there { place < length (counts_of kind self.old.kept) }
+        requires few { kind ≡ Kind.Pool → self.old.claimed + 1 < 2 ^ 20 }
         ensures found { IsSome result ↔ (rows_of self.old.kept (record { kind = kind; place = place }) ≡ 0) }
         ensures owner { IfSome result (λ o. o ≡ Owner.Kept (record { kind = kind; place = place; adds = first_adds })) }
         ensures owned { IfSome result (λ o. IsOwner self.new o) }
         ensures rows { IfSome result (λ o. (s : Slot) → rows_of self.new.kept s ≡ rows_of self.old.kept s + row_of o s) }
         ensures free { IfSome result (λ _. free_count (counts_of kind self.new.kept) + 1 ≡ free_count (counts_of kind self.old.kept)) }
         ensures sizes { (k : Kind) → length (counts_of k self.new.kept) ≡ length (counts_of k self.old.kept) }
-        ensures some { self.new ≡ record self.old { kept = self.new.kept } }
+        ensures some { IsSome result → self.new ≡ record self.old { kept = self.new.kept; claimed = self.old.claimed + pool_one kind } }
         ensures none { IsNone result → self.new ≡ self.old }
     {
         if self.kept.of(kind)[place as usize] != 0 {
             return None;
         }
         self.kept.take(kind, place);
+        self.claimed += pool_one(kind);
         Some(Owner::Kept(Row {
             kind,
             place,
@@ -356,7 +365,8 @@ impl PoolSeat {
     /// Counts a make of POOL of so many octets that is made.
     #[inline(always)]
     pub fn granted(&mut self, octets: u32)
-        requires { self.old.makes.made + self.old.makes.refused < 2 ^ 64 - 1 }
+        requires countable { self.old.makes.made + self.old.makes.refused < 2 ^ 64 - 1 }
+        requires few { self.old.claimed ≤ pbufs_of Kind.Pool octets }
         ensures counted { self.new ≡ record self.old { makes = record self.old.makes { made = self.old.makes.made + 1; asked = min (self.old.makes.asked + pbufs_of Kind.Pool octets) (2 ^ 64 - 1) }; claimed = 0 } }
         ensures grows { self.old.makes.asked ≤ self.new.makes.asked }
     {
@@ -368,9 +378,14 @@ impl PoolSeat {
     /// Counts one that is refused.
     #[inline(always)]
     pub fn denied(&mut self, octets: u32)
-        requires { self.old.makes.made + self.old.makes.refused < 2 ^ 64 - 1 }
+        requires countable { self.old.makes.made + self.old.makes.refused < 2 ^ 64 - 1 }
+        requires few { self.old.claimed < pbufs_of Kind.Pool octets }
         ensures counted { self.new ≡ record self.old { makes = record self.old.makes { refused = self.old.makes.refused + 1; last_refused = octets; asked = min (self.old.makes.asked + pbufs_of Kind.Pool octets) (2 ^ 64 - 1) }; claimed = 0 } }
         ensures grows { self.old.makes.asked ≤ self.new.makes.asked }
+
+        // More pbufs of POOL were asked for than the right to claim has claimed, or than are in use of those that are kept.
+        ensures claims { self.new.makes.asked < 2 ^ 64 - 1 → length self.new.holder.got < self.new.makes.asked }
+        ensures kept { self.new.makes.asked < 2 ^ 64 - 1 → length self.new.kept.pool.items < free_count self.new.kept.pool.items + self.new.makes.asked }
     {
         self.makes.refused += 1;
         self.makes.last_refused = octets;
@@ -378,35 +393,18 @@ impl PoolSeat {
         self.claimed = 0;
     }
 
-    /// Whether the count of the owner's pbuf has room for so many owners more.
-    #[inline(always)]
-    pub fn has_room(&self, owner: &Owner, more: u32) -> bool
-        ensures { IsTrue result ↔ HasRoom more self.now owner.now }
-    {
-        match owner {
-            Owner::Kept(row) => self.kept.count(row.kind, row.place) <= u32::MAX - more,
-            Owner::Counted(_) => true,
-        }
-    }
-
     /// A second owner of the same pbuf, with so many of the adds left.
     #[inline(always)]
-    pub fn share(&mut self, owner: &mut Owner, adds: u32) -> Owner
-        requires owner { IsOwner self.old owner.old }
-        requires room { HasRoom 1 self.old owner.old }
+    pub fn share(&self, owner: &mut Owner, adds: u32) -> Owner
+        requires owner { IsOwner self.now owner.old }
         requires enough { adds < adds_of owner.old }
         ensures first { owner.new ≡ sharing adds owner.old }
         ensures second { result ≡ share_of adds owner.old }
         ensures sum { weight_of owner.new + weight_of result ≡ weight_of owner.old }
-        ensures first_owned { IsOwner self.new owner.new }
-        ensures second_owned { IsOwner self.new result }
-        ensures rows { (s : Slot) → rows_of self.new.kept s ≡ rows_of self.old.kept s + row_of result s }
-        ensures sizes { (k : Kind) → length (counts_of k self.new.kept) ≡ length (counts_of k self.old.kept) }
-        ensures same { self.new ≡ record self.old { kept = self.new.kept } }
+        ensures rows { (s : Slot) → row_of owner.new s + row_of result s ≡ row_of owner.old s }
     {
         match owner {
             Owner::Kept(row) => {
-                self.kept.add(row.kind, row.place);
                 row.adds -= adds;
                 row.adds -= 1;
                 Owner::Kept(Row { adds, ..*row })
@@ -431,7 +429,7 @@ impl PoolSeat {
         ensures ended { ended_at self.new ≡ ended_at self.old + (if result then 1 else 0) }
     {
         match owner {
-            Owner::Kept(row) => self.kept.give(row.kind, row.place),
+            Owner::Kept(row) => self.kept.give(row.kind, row.place, row.adds),
             Owner::Counted(mut holder) => {
                 let dropped = self.counts.drop_one(&mut holder);
                 self.counts.join(&mut self.holder, holder);
@@ -452,6 +450,17 @@ fn look_over(counts: &Counts, holder: &mut Holder) -> u32
         free += u32::from(counts.look(holder, i) == 0);
     }
     free
+}
+
+// 1 for POOL, whose pbufs are counted as they are taken, and 0 for the other kinds.
+#[inline(always)]
+fn pool_one(kind: Kind) -> u32
+    ensures { result ≡ pool_one kind }
+{
+    match kind {
+        Kind::Pool => 1,
+        Kind::Ram | Kind::Rom | Kind::Ref => 0,
+    }
 }
 
 // How many pbufs of POOL so many octets take.

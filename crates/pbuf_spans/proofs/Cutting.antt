@@ -14,8 +14,9 @@ use Rattle.pbuf_seats.specs.Seats.{SeatSeen}
 use Rattle.pbuf_spans.specs.declared.body.Body.{Body}
 use Rattle.pbuf_spans.specs.Parts.{Part, joined, rows_in, weight_in, IsUnder, IsChain, IsSpent}
 use Rattle.pbuf_spans.specs.Spans.{lens, parts_of, bare, octets_of, is_own, IsSpan}
-use Rattle.pbuf_spans.specs.Cuts.{IsCutTo}
+use Rattle.pbuf_spans.specs.Cuts.{without_front, with_front, IsCutTo}
 use Rattle.pbuf_spans.proofs.Lists.{rows_in-cons, weight_in-cons, rows_in-push, weight_in-push, least_adds-front, least_adds-push, all_own-front, all_own-tail, all_own-push, joined-push}
+use Rattle.pbuf_spans.proofs.Ends.{front_here, front_past, front_none, back_all, back_last, back_within}
 use Rattle.pbuf_spans.proofs.Owning.{same_seat, same_then, may_give}
 use Rattle.pbuf_spans.proofs.Spans.{lens-cons, lens-append, length-text, lens_text, parts_of-take, parts_of-append, rows_in-parts_of, weight_in-parts_of}
 
@@ -52,6 +53,7 @@ all_spent h k l own text ps was is spent same = subst (λ (j : SeatSeen). IsSpen
 -- one step of a cut: of ps are left qs, and of n octets still so many are to be cut, at the front
 pub record CutsFront (h k : SeatSeen) (ps qs : List Part) (n left : ℕ) : Type 0 where
   pub octets : drop left (joined qs) ≡ drop n (joined ps)
+  pub left_parts : without_front left qs ≡ without_front n ps
   pub within : left ≤ length (joined qs)
   pub less : left < n
   pub chain : IsChain k.holder.table qs
@@ -62,13 +64,15 @@ cut_part : (h : SeatSeen) (x : Part) (xs : List Part) (n : ℕ) → IsChain h.ho
     → CutsFront h h (x ∷ xs) (record { owner = x.owner; octets = drop n x.octets; own = x.own } ∷ xs) n 0
 cut_part h x xs n chain some short =
     let y : Part = record { owner = x.owner; octets = drop n x.octets; own = x.own } in
+    let all : All (λ (z : Part). 0 < length z.octets) (y ∷ xs) = All-cons (λ (z : Part). 0 < length z.octets) y xs (let l = length-drop n x.octets in omega arith) (All-tail (λ (z : Part). 0 < length z.octets) x xs chain.some) in
     record {
       octets = sym (drop-append-le n x.octets (joined xs) (omega arith));
+      left_parts = front_none (y ∷ xs) all ∙ sym (front_here x xs n short);
       within = omega arith;
       less = some;
       chain = record {
         under = All-cons (λ (z : Part). IsUnder h.holder.table z.owner) y xs (All-head (λ (z : Part). IsUnder h.holder.table z.owner) x xs chain.under) (All-tail (λ (z : Part). IsUnder h.holder.table z.owner) x xs chain.under);
-        some = All-cons (λ (z : Part). 0 < length z.octets) y xs (let l = length-drop n x.octets in omega arith) (All-tail (λ (z : Part). 0 < length z.octets) x xs chain.some);
+        some = all;
         short = let a = length-append x.octets (joined xs) in let b = length-append (drop n x.octets) (joined xs) in let l = length-drop n x.octets in let s = chain.short in omega arith;
       };
       cut = record { rows = λ s. refl; fewer = λ s. omega arith; weight = refl; parts = omega arith; adds = omega arith; own = λ o. o; same = same_seat h };
@@ -86,6 +90,7 @@ cut_whole h k x xs p n left chain within long is spent =
     let given : Part = record { owner = p.owner; octets = []; own = true } in
     record {
       octets = sym (ap (λ (j : ℕ). drop j (x.octets ++ joined xs)) (sym long) ∙ drop-past x.octets (joined xs) left);
+      left_parts = sym (front_past x xs n (omega arith) ∙ ap (λ (j : ℕ). without_front j xs) (let e : n - length x.octets ≡ left = omega arith in e));
       within = omega arith;
       less = omega arith;
       chain = record {
@@ -197,17 +202,19 @@ first_owner h body from to (x ∷ xs) was p is chain listed some first =
 -- a cut at the front under way: of ps are left qs, and of n octets so many are still to be cut
 pub record FrontCut (h k : SeatSeen) (ps qs : List Part) (n left : ℕ) : Type 0 where
   pub octets : drop left (joined qs) ≡ drop n (joined ps)
+  pub left_parts : without_front left qs ≡ without_front n ps
   pub within : left ≤ length (joined qs)
   pub chain : IsChain k.holder.table qs
   pub listed : (s : Slot) → rows_in qs s ≤ rows_of k.kept s
   pub cut : IsCutTo h k ps qs
 
 pub front_first : (h : SeatSeen) (ps : List Part) (n : ℕ) → IsChain h.holder.table ps → n ≤ length (joined ps) → ((s : Slot) → rows_in ps s ≤ rows_of h.kept s) → FrontCut h h ps ps n n
-front_first h ps n chain within listed = record { octets = refl; within = within; chain = chain; listed = listed; cut = cut_none h ps }
+front_first h ps n chain within listed = record { octets = refl; left_parts = refl; within = within; chain = chain; listed = listed; cut = cut_none h ps }
 
-pub front_next : (h k l : SeatSeen) (ps qs rs : List Part) (n left after : ℕ) → FrontCut h k ps qs n left → drop after (joined rs) ≡ drop left (joined qs) → after ≤ length (joined rs) → IsChain l.holder.table rs → IsCutTo k l qs rs → FrontCut h l ps rs n after
-front_next h k l ps qs rs n left after f octets within chain cut = record {
+pub front_next : (h k l : SeatSeen) (ps qs rs : List Part) (n left after : ℕ) → FrontCut h k ps qs n left → drop after (joined rs) ≡ drop left (joined qs) → without_front after rs ≡ without_front left qs → after ≤ length (joined rs) → IsChain l.holder.table rs → IsCutTo k l qs rs → FrontCut h l ps rs n after
+front_next h k l ps qs rs n left after f octets parts within chain cut = record {
   octets = octets ∙ f.octets;
+  left_parts = parts ∙ f.left_parts;
   within = within;
   chain = chain;
   listed = still_listed k l qs rs cut f.listed;
@@ -223,6 +230,7 @@ take-past (x ∷ xs) ys n = ap (λ (k : ℕ). take k (x ∷ (xs ++ ys))) (let e 
 -- one step of a cut at the back
 pub record CutsBack (h k : SeatSeen) (ps qs : List Part) (n left : ℕ) : Type 0 where
   pub octets : take (length (joined qs) - left) (joined qs) ≡ take (length (joined ps) - n) (joined ps)
+  pub left_parts : with_front (length (joined qs) - left) qs ≡ with_front (length (joined ps) - n) ps
   pub count : length (joined qs) + n ≡ length (joined ps) + left
   pub less : left < n
   pub chain : IsChain k.holder.table qs
@@ -243,13 +251,16 @@ back_part h xs p y n chain some short is =
     let new_length = ap length new ∙ length-append (joined xs) (take (length p.octets - n) p.octets) in
     let kept = length-take (length p.octets - n) p.octets in
     let y_length = ap length y_octets in
+    let all : All (λ (z : Part). 0 < length z.octets) (xs ++ y ∷ []) = All-push (λ (z : Part). 0 < length z.octets) xs y some_front.0 (omega arith) in
     record {
       octets = take_all (length (joined (xs ++ y ∷ [])) - 0) (joined (xs ++ y ∷ [])) (omega arith) ∙ (new ∙ sym (ap (take (length (joined (xs ++ p ∷ [])) - n)) old ∙ (ap (λ (j : ℕ). take j (joined xs ++ p.octets)) (let e : length (joined (xs ++ p ∷ [])) - n ≡ length (joined xs) + (length p.octets - n) = omega arith in e) ∙ take-past (joined xs) p.octets (length p.octets - n))));
+      left_parts = back_all (xs ++ y ∷ []) (length (joined (xs ++ y ∷ [])) - 0) (omega arith) all
+          ∙ (ap (λ (z : Part). xs ++ z ∷ []) is ∙ sym (back_last xs p (length (joined (xs ++ p ∷ [])) - n) (length p.octets - n) some_front.0 (omega arith) (omega arith)));
       count = omega arith;
       less = some;
       chain = record {
         under = All-push (λ (z : Part). IsUnder h.holder.table z.owner) xs y front.0 (subst (λ (o : Owner). IsUnder h.holder.table o) (sym y_owner) front.1);
-        some = All-push (λ (z : Part). 0 < length z.octets) xs y some_front.0 (omega arith);
+        some = all;
         short = let s = chain.short in omega arith;
       };
       cut = record {
@@ -275,6 +286,7 @@ back_whole h k xs p q n left chain within long is spent =
     let old_length = ap length old ∙ length-append (joined xs) p.octets in
     record {
       octets = sym (ap (take (length (joined (xs ++ p ∷ [])) - n)) old ∙ (ap (λ (j : ℕ). take j (joined xs ++ p.octets)) (let e : length (joined (xs ++ p ∷ [])) - n ≡ length (joined xs) - left = omega arith in e) ∙ take-append-le (length (joined xs) - left) (joined xs) p.octets (omega arith)));
+      left_parts = sym (ap (λ (j : ℕ). with_front j (xs ++ p ∷ [])) (let e : length (joined (xs ++ p ∷ [])) - n ≡ length (joined xs) - left = omega arith in e) ∙ back_within xs (p ∷ []) (length (joined xs) - left) (omega arith));
       count = omega arith;
       less = omega arith;
       chain = record {
@@ -371,18 +383,20 @@ last_owner h body from to ps xs was p is chain listed popped =
 -- a cut at the back under way, likewise
 pub record BackCut (h k : SeatSeen) (ps qs : List Part) (n left : ℕ) : Type 0 where
   pub octets : take (length (joined qs) - left) (joined qs) ≡ take (length (joined ps) - n) (joined ps)
+  pub left_parts : with_front (length (joined qs) - left) qs ≡ with_front (length (joined ps) - n) ps
   pub within : left ≤ length (joined qs)
   pub chain : IsChain k.holder.table qs
   pub listed : (s : Slot) → rows_in qs s ≤ rows_of k.kept s
   pub cut : IsCutTo h k ps qs
 
 pub back_first : (h : SeatSeen) (ps : List Part) (n : ℕ) → IsChain h.holder.table ps → n ≤ length (joined ps) → ((s : Slot) → rows_in ps s ≤ rows_of h.kept s) → BackCut h h ps ps n n
-back_first h ps n chain within listed = record { octets = refl; within = within; chain = chain; listed = listed; cut = cut_none h ps }
+back_first h ps n chain within listed = record { octets = refl; left_parts = refl; within = within; chain = chain; listed = listed; cut = cut_none h ps }
 
 pub back_next : (h k l : SeatSeen) (ps qs rs : List Part) (n left after : ℕ) → BackCut h k ps qs n left
-    → take (length (joined rs) - after) (joined rs) ≡ take (length (joined qs) - left) (joined qs) → length (joined rs) + left ≡ length (joined qs) + after → IsChain l.holder.table rs → IsCutTo k l qs rs → BackCut h l ps rs n after
-back_next h k l ps qs rs n left after f octets count chain cut = record {
+    → take (length (joined rs) - after) (joined rs) ≡ take (length (joined qs) - left) (joined qs) → with_front (length (joined rs) - after) rs ≡ with_front (length (joined qs) - left) qs → length (joined rs) + left ≡ length (joined qs) + after → IsChain l.holder.table rs → IsCutTo k l qs rs → BackCut h l ps rs n after
+back_next h k l ps qs rs n left after f octets parts count chain cut = record {
   octets = octets ∙ f.octets;
+  left_parts = parts ∙ f.left_parts;
   within = let w = f.within in omega arith;
   chain = chain;
   listed = still_listed k l qs rs cut f.listed;

@@ -1,3 +1,4 @@
+pub mod Ends
 pub mod Cutting
 pub mod Lists
 pub mod Owning

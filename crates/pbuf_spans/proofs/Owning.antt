@@ -1,5 +1,5 @@
 -- Owners of pbufs: how they are looked at, given up and added.
-use Rattle.std.proofs.Common.{◌≡◌, ℕ, zero, suc, ◌+◌, ◌-◌, ◌<◌, ◌≤◌, Bool, true, false, ◌&&◌, cond, min, eqb, eq-eqb, List, [], ◌∷◌, ◌++◌, length, map, set, take, drop, get_or, All, Some, refl, sym, ap, ◌∙◌, subst, arith, length-append, length-take, length-set, append_assoc}
+use Rattle.std.proofs.Common.{◌≡◌, ℕ, zero, suc, ◌+◌, ◌<◌, ◌≤◌, Bool, true, ◌&&◌, cond, min, eq-eqb, List, [], ◌∷◌, ◌++◌, length, map, set, take, drop, get_or, All, Some, refl, sym, ap, ◌∙◌, subst, arith, length-append, length-take, length-set, append_assoc}
 use Rattle.std.specs.Prelude.{sum_by}
 use Rattle.std.proofs.lemmas.List.{length-map, drop-drop, drop_more, take_more, take_more_set, drop-set-lt, take_all, drop_all, map_push, get_or-drop}
 use Rattle.std.proofs.lemmas.List.Elements.{All-pop, All-get_or}
@@ -11,13 +11,13 @@ use Rattle.pbuf_counts.specs.Holders.{Known}
 use Rattle.pbuf_seats.specs.declared.owner.Owner.{Owner}
 use Rattle.pbuf_seats.specs.declared.owner.Owner.TheVariants.{Kept, Counted}
 use Rattle.pbuf_seats.specs.declared.pbuf.Pbuf.{Pbuf}
-use Rattle.pbuf_seats.specs.Kept.{counts_of, rows_of, row_at, number_of}
-use Rattle.pbuf_seats.specs.Owners.{IsOwner, GaveUp, HasRoom, row_of, weight_of, adds_of, slot_of, ended_at}
+use Rattle.pbuf_seats.specs.Kept.{counts_of, rows_of, rows_at, number_of}
+use Rattle.pbuf_seats.specs.Owners.{IsOwner, GaveUp, row_of, weight_of, adds_of, slot_of, ended_at}
 use Rattle.pbuf_seats.specs.Seats.{SeatSeen}
 use Rattle.pbuf_spans.specs.Parts.{Part, rows_in, weight_in, least_adds, IsUnder, IsSameSeat, IsSpent, GivesBack}
 use Rattle.pbuf_spans.specs.Spans.{bare}
 use Rattle.pbuf_spans.specs.Shares.{first_held, second_held, MayShare, OwnersShared}
-use Rattle.pbuf_spans.proofs.Spans.{length-bare, bare_owners}
+use Rattle.pbuf_spans.proofs.Spans.{bare_owners}
 
 -- Sums over owners
 
@@ -71,12 +71,12 @@ same_then h k l a b = record {
   claimed = b.claimed ∙ a.claimed;
 }
 
-own_row : (kind : Kind) (place : ℕ) → row_at kind place record { kind = kind; place = place } ≡ 1
-own_row kind place = λ i. cond (eq-eqb (number_of kind) (number_of kind) refl i && eq-eqb place place refl i) 1 0
+own_row : (kind : Kind) (place n : ℕ) → rows_at kind place n record { kind = kind; place = place } ≡ n
+own_row kind place n = λ i. cond (eq-eqb (number_of kind) (number_of kind) refl i && eq-eqb place place refl i) n 0
 
 -- an owner whose rows the seat gave out, and which is under its counts, may be given up to it
 pub may_give : (h : SeatSeen) (o : Owner) → IsUnder h.holder.table o → ((s : Slot) → row_of o s ≤ rows_of h.kept s) → IsOwner h o
-may_give h (Kept r) under listed = let l = listed (slot_of r) in let e = own_row r.kind r.place in omega arith
+may_give h (Kept r) under listed = let l = listed (slot_of r) in let e = own_row r.kind r.place (r.adds + 1) in omega arith
 may_give h (Counted c) under listed = under
 
 -- Owners that are given up one after another
@@ -176,19 +176,6 @@ frees_last h k t pbufs (p ∷ ps) ended f none = absurd (omega arith)
 
 -- Owners that are added one after another
 
--- a row is one at most
-row_most : (o : Owner) (s : Slot) → row_of o s ≤ 1
-row_most (Kept r) s = here (eqb (number_of s.kind) (number_of r.kind) && eqb s.place r.place)
-  where
-    here : (b : Bool) → cond {A = ℕ} b 1 0 ≤ 1
-    here true = omega arith
-    here false = omega arith
-row_most (Counted h) s = omega arith
-
-rows_most : (ps : List Pbuf) (s : Slot) → rows_in (bare ps) s ≤ length ps
-rows_most [] s = omega arith
-rows_most (p ∷ ps) s = let a = rows_bare-cons p ps s in let b = row_most p.owner s in let r = rows_most ps s in omega arith
-
 rows_read : (ps : List Pbuf) (i : ℕ) (p : Pbuf) (s : Slot) → i < length ps → p ≡ get_or ps i p → row_of p.owner s ≤ rows_in (bare ps) s
 rows_read [] i p s inside is = absurd (omega arith)
 rows_read (x ∷ xs) zero p s inside is = let a = rows_bare-cons x xs s in let e = ap (λ (y : Pbuf). row_of y.owner s) is in omega arith
@@ -198,11 +185,6 @@ adds_read : (xs : List Pbuf) (j : ℕ) (p : Pbuf) → 0 < least_adds (bare xs) �
 adds_read [] j p s l e = absurd (omega arith)
 adds_read (x ∷ xs) zero p s l e = let f = ap (λ (y : Pbuf). adds_of y.owner) e in omega arith
 adds_read (x ∷ xs) (suc j) p s l e = adds_read xs j p (omega arith) (omega arith) e
-
--- there is room in the counts that the owners ask for
-room_here : (n m : ℕ) (h k : SeatSeen) (o : Owner) → HasRoom n h o → ((s : Slot) → rows_of k.kept s + m ≤ rows_of h.kept s + n) → 0 < m → HasRoom 1 k o
-room_here n m h k (Kept r) room more some = let a = more (slot_of r) in omega arith
-room_here n m h k (Counted c) room more some = tt
 
 -- what stands at a place, from what is left from it on
 read_left : (ps qs : List Pbuf) (i : ℕ) (p : Pbuf) → drop i qs ≡ drop i ps → p ≡ get_or qs i p → p ≡ get_or ps i p
@@ -214,34 +196,30 @@ read_left ps qs i p same is = is ∙ (back qs ∙ (ap (λ (l : List Pbuf). get_o
 next_left : (ps qs : List Pbuf) (i : ℕ) → drop i qs ≡ drop i ps → drop (i + 1) qs ≡ drop (i + 1) ps
 next_left ps qs i same = sym (drop-drop 1 i qs) ∙ (ap (drop 1) same ∙ drop-drop 1 i ps)
 
--- the pbufs ps, which are qs now, were shared below i, and ms have the new owners; the seat h is k now
-pub record Owns (hands : Bool) (h k : SeatSeen) (ps qs ms : List Pbuf) (i : ℕ) : Type 0 where
+-- the pbufs ps, which are qs now, were shared below i, and ms have the new owners
+pub record Owns (hands : Bool) (ps qs ms : List Pbuf) (i : ℕ) : Type 0 where
   pub done : take i qs ≡ map (first_held hands) (take i ps)
   pub made : ms ≡ map (second_held hands) (take i ps)
   pub behind : drop i qs ≡ drop i ps
   pub count : length qs ≡ length ps
-  pub rows : (s : Slot) → rows_of k.kept s ≡ rows_of h.kept s + rows_in (bare ms) s
+  pub rows : (s : Slot) → rows_in (bare (take i qs)) s + rows_in (bare ms) s ≡ rows_in (bare (take i ps)) s
   pub weight : weight_in (bare (take i qs)) + weight_in (bare ms) ≡ weight_in (bare (take i ps))
-  pub holder : k.holder ≡ h.holder
-  pub same : IsSameSeat h k
 
-pub owns_first : (hands : Bool) (h : SeatSeen) (ps ms : List Pbuf) → ms ≡ [] → Owns hands h h ps ps ms 0
-owns_first hands h ps ms none = record {
+pub owns_first : (hands : Bool) (ps ms : List Pbuf) → ms ≡ [] → Owns hands ps ps ms 0
+owns_first hands ps ms none = record {
   done = refl;
   made = none;
   behind = refl;
   count = refl;
   rows = λ s. let e = ap (λ (l : List Pbuf). rows_in (bare l) s) none in omega arith;
   weight = let e = ap (λ (l : List Pbuf). weight_in (bare l)) none in omega arith;
-  holder = refl;
-  same = same_seat h;
 }
 
 -- there are as many new owners as pbufs were shared
-pub owns_few : (hands : Bool) (h k : SeatSeen) (ps qs ms : List Pbuf) (i : ℕ) → Owns hands h k ps qs ms i → i ≤ length ps → length ms ≡ i
-owns_few hands h k ps qs ms i a inside = let m = ap length a.made in let n = length-map (take i ps) (second_held hands) in let t = length-take i ps in omega arith
+pub owns_few : (hands : Bool) (ps qs ms : List Pbuf) (i : ℕ) → Owns hands ps qs ms i → i ≤ length ps → length ms ≡ i
+owns_few hands ps qs ms i a inside = let m = ap length a.made in let n = length-map (take i ps) (second_held hands) in let t = length-take i ps in omega arith
 
-module _ (hands : Bool) (h k : SeatSeen) (ps qs ms : List Pbuf) (i : ℕ) (p : Pbuf) (a : Owns hands h k ps qs ms i) (inside : i < length qs) (is : p ≡ get_or qs i p) where
+module _ (hands : Bool) (ps qs ms : List Pbuf) (i : ℕ) (p : Pbuf) (a : Owns hands ps qs ms i) (inside : i < length qs) (is : p ≡ get_or qs i p) where
   at : p ≡ get_or ps i p
   at = read_left ps qs i p a.behind is
 
@@ -249,59 +227,45 @@ module _ (hands : Bool) (h k : SeatSeen) (ps qs ms : List Pbuf) (i : ℕ) (p : P
   within = let c = a.count in omega arith
 
   -- the owner there may be shared
-  pub owns_owner : MayShare h (bare ps) → IsOwner k p.owner
-  owns_owner may =
+  pub owns_owner : (h : SeatSeen) → MayShare h (bare ps) → IsOwner h p.owner
+  owns_owner h may =
       let mine : IsUnder h.holder.table p.owner = subst (λ (y : Pbuf). IsUnder h.holder.table y.owner) (sym at) (All-get_or (λ (q : Pbuf). IsUnder h.holder.table q.owner) ps i p within (bare_owners (IsUnder h.holder.table) ps may.under)) in
-      may_give k p.owner (subst (λ (t : TableId). IsUnder t p.owner) (sym a.same.table) mine) (λ s. let r = rows_read ps i p s within at in let l = may.listed s in let e = a.rows s in omega arith)
+      may_give h p.owner mine (λ s. let r = rows_read ps i p s within at in let l = may.listed s in omega arith)
 
-  pub owns_room : MayShare h (bare ps) → HasRoom 1 k p.owner
-  owns_room may =
-      let n = length (bare ps) in
-      let rooms : All (λ q. HasRoom n h q.owner) ps = bare_owners (HasRoom n h) ps may.rooms in
-      let mine : HasRoom n h p.owner = subst (λ (y : Pbuf). HasRoom n h y.owner) (sym at) (All-get_or (λ (q : Pbuf). HasRoom n h q.owner) ps i p within rooms) in
-      let m = owns_few hands h k ps qs ms i a (omega arith) in
-      let c = length-bare ps in
-      room_here n (n - i) h k p.owner mine (λ s. let e = a.rows s in let r = rows_most ms s in omega arith) (omega arith)
+  pub owns_adds : (h : SeatSeen) → MayShare h (bare ps) → 0 < adds_of p.owner
+  owns_adds h may = adds_read ps i p may.adds within at
 
-  pub owns_adds : MayShare h (bare ps) → 0 < adds_of p.owner
-  owns_adds may = adds_read ps i p may.adds within at
-
-  pub owns_next : (l : SeatSeen) (rs ns : List Pbuf) (q n : Pbuf) → q ≡ first_held hands p → n ≡ second_held hands p → rs ≡ set qs i q → ns ≡ ms ++ n ∷ [] → weight_of q.owner + weight_of n.owner ≡ weight_of p.owner
-      → ((s : Slot) → rows_of l.kept s ≡ rows_of k.kept s + row_of n.owner s) → ((kind : Kind) → length (counts_of kind l.kept) ≡ length (counts_of kind k.kept))
-      → l ≡ record { holder = k.holder; kept = l.kept; makes = k.makes; splits = k.splits; claimed = k.claimed } → Owns hands h l ps rs ns (i + 1)
-  owns_next l rs ns q n first second now after sum more sizes stays =
+  pub owns_next : (rs ns : List Pbuf) (q n : Pbuf) → q ≡ first_held hands p → n ≡ second_held hands p → rs ≡ set qs i q → ns ≡ ms ++ n ∷ [] → weight_of q.owner + weight_of n.owner ≡ weight_of p.owner
+      → ((s : Slot) → row_of q.owner s + row_of n.owner s ≡ row_of p.owner s) → Owns hands ps rs ns (i + 1)
+  owns_next rs ns q n first second now after sum more =
       let all : (g : Pbuf → Pbuf) → map g (take (i + 1) ps) ≡ map g (take i ps) ++ g p ∷ [] = λ g. ap (map g) (take_more ps i p within) ∙ (map_push g (take i ps) (get_or ps i p) ∙ ap (λ (y : Pbuf). map g (take i ps) ++ g y ∷ []) (sym at)) in
       let more_qs : take (i + 1) (set qs i q) ≡ take i qs ++ q ∷ [] = take_more_set qs i q inside in
       let more_ps : take (i + 1) ps ≡ take i ps ++ p ∷ [] = take_more ps i p within ∙ ap (λ (y : Pbuf). take i ps ++ y ∷ []) (sym at) in
-      let held : l.holder ≡ k.holder = ap (λ (x : SeatSeen). x.holder) stays in
-      subst (λ (x : List Pbuf). Owns hands h l ps x ns (i + 1)) (sym now) (subst (λ (x : List Pbuf). Owns hands h l ps (set qs i q) x (i + 1)) (sym after) record {
+      subst (λ (x : List Pbuf). Owns hands ps x ns (i + 1)) (sym now) (subst (λ (x : List Pbuf). Owns hands ps (set qs i q) x (i + 1)) (sym after) record {
         done = more_qs ∙ (ap (λ (x : List Pbuf). x ++ q ∷ []) a.done ∙ (ap (λ (y : Pbuf). map (first_held hands) (take i ps) ++ y ∷ []) first ∙ sym (all (first_held hands))));
         made = ap (λ (x : List Pbuf). x ++ n ∷ []) a.made ∙ (ap (λ (y : Pbuf). map (second_held hands) (take i ps) ++ y ∷ []) second ∙ sym (all (second_held hands)));
         behind = drop-set-lt (i + 1) qs i q (omega arith) ∙ next_left ps qs i a.behind;
         count = length-set qs i q ∙ a.count;
-        rows = λ s. let e = a.rows s in let f = more s in let b = rows_bare-push ms n s in omega arith;
+        rows = λ s.
+            let e = a.rows s in
+            let f = ap (λ (x : List Pbuf). rows_in (bare x) s) more_qs in
+            let j = ap (λ (x : List Pbuf). rows_in (bare x) s) more_ps in
+            let b = rows_bare-push (take i qs) q s in
+            let d = rows_bare-push ms n s in
+            let o = rows_bare-push (take i ps) p s in
+            let m = more s in
+            omega arith;
         weight = let e = a.weight in let f = ap (λ (x : List Pbuf). weight_in (bare x)) more_qs in let j = ap (λ (x : List Pbuf). weight_in (bare x)) more_ps in let b = weight_bare-push (take i qs) q in let d = weight_bare-push ms n in let o = weight_bare-push (take i ps) p in omega arith;
-        holder = held ∙ a.holder;
-        same = same_then h k l a.same record {
-          table = ap (λ (x : Known). x.table) held;
-          right = ap (λ (x : Known). x.rights) held;
-          sizes = sizes;
-          makes = ap (λ (x : SeatSeen). x.makes) stays;
-          splits = ap (λ (x : SeatSeen). x.splits) stays;
-          claimed = ap (λ (x : SeatSeen). x.claimed) stays;
-        };
       })
 
-pub owns_last : (hands : Bool) (h k : SeatSeen) (ps qs ms : List Pbuf) (i : ℕ) → Owns hands h k ps qs ms i → length ps ≤ i → OwnersShared hands h k ps qs ms
-owns_last hands h k ps qs ms i a past =
+pub owns_last : (hands : Bool) (ps qs ms : List Pbuf) (i : ℕ) → Owns hands ps qs ms i → length ps ≤ i → OwnersShared hands ps qs ms
+owns_last hands ps qs ms i a past =
     let c = a.count in
     let x = take_all i qs (omega arith) in
     let z = take_all i ps past in
     record {
       first = sym x ∙ (a.done ∙ ap (map (first_held hands)) z);
       second = a.made ∙ ap (map (second_held hands)) z;
-      rows = a.rows;
+      rows = λ s. let e = a.rows s in let f = ap (λ (l : List Pbuf). rows_in (bare l) s) x in let j = ap (λ (l : List Pbuf). rows_in (bare l) s) z in omega arith;
       weight = let e = a.weight in let f = ap (λ (l : List Pbuf). weight_in (bare l)) x in let j = ap (λ (l : List Pbuf). weight_in (bare l)) z in omega arith;
-      holder = a.holder;
-      same = a.same;
     }

@@ -3,21 +3,16 @@ use Rattle.std.proofs.Common.{◌≡◌, ℕ, ◌+◌, ◌-◌, ◌≤◌, min, 
 use Rattle.std.specs.Prelude.{slice_range}
 use Rattle.std.specs.List.{refill}
 use Rattle.std.proofs.lemmas.List.{length-map, take_all, drop_all}
-use Rattle.std.proofs.lemmas.List.Elements.{All-head, All-nil, All-cons, All-map, All-weaker}
-use Rattle.atomic_table.specs.Seated.{TableId}
-use Rattle.lw_payload.specs.Views.{Slot}
-use Rattle.pbuf_counts.specs.Holders.{Known, owner_of}
+use Rattle.std.proofs.lemmas.List.Elements.{All-head, All-nil, All-cons, All-map}
 use Rattle.pbuf_seats.specs.declared.owner.Owner.{Owner}
-use Rattle.pbuf_seats.specs.declared.owner.Owner.TheVariants.{Kept, Counted}
 use Rattle.pbuf_seats.specs.declared.pbuf.Pbuf.{Pbuf}
-use Rattle.pbuf_seats.specs.Kept.{rows_of}
-use Rattle.pbuf_seats.specs.Owners.{HasRoom, row_of, weight_of, adds_of, sharing, share_of}
+use Rattle.pbuf_seats.specs.Owners.{row_of, weight_of, adds_of, sharing, share_of}
 use Rattle.pbuf_seats.specs.Seats.{SeatSeen}
 use Rattle.pbuf_spans.specs.declared.body.Body.{Body}
-use Rattle.pbuf_spans.specs.Parts.{Part, joined, rows_in, weight_in, least_adds, IsUnder, IsSpent}
+use Rattle.pbuf_spans.specs.Parts.{Part, joined, rows_in, weight_in, least_adds, IsUnder}
 use Rattle.pbuf_spans.specs.Spans.{lens, parts_of, bare, octets_of, is_own, IsSpan}
 use Rattle.pbuf_spans.specs.Shares.{handed, first_of, second_of, first_held, second_held, as_shared, MayShare, AllShared, OwnersShared}
-use Rattle.pbuf_spans.proofs.Spans.{length-parts_of, length-bare, lens_text, joined_text, rows_in-parts_of, weight_in-parts_of, least_adds-parts_of, owners_held, owners_bare, shared_parts, shared_owners}
+use Rattle.pbuf_spans.proofs.Spans.{lens_text, joined_text, rows_in-parts_of, weight_in-parts_of, least_adds-parts_of, owners_held, owners_bare, shared_parts, shared_owners}
 use Rattle.pbuf_spans.proofs.Owning.{sum_by-map}
 
 length-range : (xs : List ℕ) (from to : ℕ) → from ≤ to → to ≤ length xs → length (slice_range xs from to) ≡ to - from
@@ -58,12 +53,10 @@ module _ (own : Bool) (text : List ℕ) (ps : List Pbuf) (seen : List Part) (vie
   pub may_bare : (h : SeatSeen) → MayShare h seen → MayShare h (bare ps)
   may_bare h may =
       let m : MayShare h (parts_of own text ps) = subst (λ (l : List Part). MayShare h l) (sym view) may in
-      let n : length (parts_of own text ps) ≡ length (bare ps) = length-parts_of own text ps ∙ sym (length-bare ps) in
       record {
         under = owners_bare (IsUnder h.holder.table) ps (owners_held (IsUnder h.holder.table) own text ps m.under);
         listed = λ s. let l = m.listed s in let e = rows_in-parts_of own text ps s in omega arith;
         adds = let a = m.adds in let e = least_adds-parts_of own text ps in omega arith;
-        rooms = owners_bare (HasRoom (length (bare ps)) h) ps (owners_held (HasRoom (length (bare ps)) h) own text ps (subst (λ (k : ℕ). All (λ q. HasRoom k h q.owner) (parts_of own text ps)) n m.rooms));
       }
 
   -- there is no pbuf, or the body is shared
@@ -76,18 +69,22 @@ module _ (own : Bool) (text : List ℕ) (ps : List Pbuf) (seen : List Part) (vie
       here (x ∷ xs) ys all e = ap (λ (b : Bool). parts_of b text ys) (All-head (λ (q : Part). q.own ≡ false) record { owner = x.owner; octets = take x.len text; own = own } (parts_of own (drop x.len text) xs) all)
 
   -- two owners of each pbuf
-  pub all_shared : (hands : Bool) (h k : SeatSeen) (qs ms : List Pbuf) (window : List ℕ) → All (λ p. p.own ≡ false) seen → window ≡ text → OwnersShared hands h k ps qs ms → AllShared hands h k seen (parts_of own text qs) (parts_of false window ms)
-  all_shared hands h k qs ms window shared same s =
+  pub all_shared : (hands : Bool) (qs ms : List Pbuf) (window : List ℕ) → All (λ p. p.own ≡ false) seen → window ≡ text → OwnersShared hands ps qs ms → AllShared hands seen (parts_of own text qs) (parts_of false window ms)
+  all_shared hands qs ms window shared same s =
       let count : length qs ≡ length ps = ap length s.first ∙ length-map ps (first_held hands) in
       record {
         first = seen_shared qs shared count ∙ (ap (λ (l : List Pbuf). parts_of false text l) s.first
             ∙ (shared_owners (λ (o : Owner). sharing (handed hands (adds_of o)) o) own text ps ∙ ap (map (first_of hands)) view));
         second = ap (λ (l : List ℕ). parts_of false l ms) same ∙ (ap (λ (l : List Pbuf). parts_of false text l) s.second
             ∙ (shared_owners (λ (o : Owner). share_of (handed hands (adds_of o)) o) own text ps ∙ ap (map (second_of hands)) view));
-        rows = λ x. let r = s.rows x in let e = rows_in-parts_of false window ms x in omega arith;
+        rows = λ x.
+            let r = s.rows x in
+            let a = rows_in-parts_of own text qs x in
+            let b = rows_in-parts_of false window ms x in
+            let d = rows_in-parts_of own text ps x in
+            let e = ap (λ (l : List Part). rows_in l x) view in
+            omega arith;
         weight = let w = s.weight in let a = weight_in-parts_of own text qs in let b = weight_in-parts_of false window ms in let d = weight_in-parts_of own text ps in let e = ap weight_in view in omega arith;
-        holder = s.holder;
-        same = s.same;
       }
 
 -- a slice that is written back is the whole list
@@ -144,52 +141,13 @@ module _ (ps between : List Part) (now : between ≡ map as_shared ps) where
     under = All-map (λ (q : Part). IsUnder h.holder.table q.owner) as_shared ps may.under;
     listed = λ s. let e = sum_by-map (λ (q : Part). row_of q.owner s) as_shared (λ (q : Part). row_of q.owner s) (λ q. refl) ps in let l = may.listed s in omega arith;
     adds = let e = least_shared ps in let a = may.adds in omega arith;
-    rooms = All-map (λ (q : Part). HasRoom (length (map as_shared ps)) h q.owner) as_shared ps (subst (λ (n : ℕ). All (λ q. HasRoom n h q.owner) ps) (sym (length-map ps as_shared)) may.rooms);
   })
 
-  pub whole_share : (hands : Bool) (h m k : SeatSeen) (qs os : List Part) → m ≡ h → AllShared hands m k between qs os → AllShared hands h k ps qs os
-  whole_share hands h m k qs os seat share =
-      let s : AllShared hands h k between qs os = subst (λ (x : SeatSeen). AllShared hands x k between qs os) seat share in
+  pub whole_share : (hands : Bool) (qs os : List Part) → AllShared hands between qs os → AllShared hands ps qs os
+  whole_share hands qs os s =
       record {
         first = s.first ∙ (ap (map (first_of hands)) now ∙ firsts_shared hands ps);
         second = s.second ∙ (ap (map (second_of hands)) now ∙ seconds_shared hands ps);
-        rows = s.rows;
+        rows = λ x. let r = s.rows x in let e = ap (λ (l : List Part). rows_in l x) now in let m = sum_by-map (λ (q : Part). row_of q.owner x) as_shared (λ (q : Part). row_of q.owner x) (λ q. refl) ps in omega arith;
         weight = let w = s.weight in let e = ap weight_in now in let m = sum_by-map (λ (q : Part). weight_of q.owner) as_shared (λ (q : Part). weight_of q.owner) (λ q. refl) ps in omega arith;
-        holder = s.holder;
-        same = s.same;
       }
-
--- What was shared may be given up
-
-first_under : (t : TableId) (n : ℕ) (o : Owner) → IsUnder t o → IsUnder t (sharing n o)
-first_under t n (Kept r) under = tt
-first_under t n (Counted h) under = λ i. record (under i) { adds = h.adds - (n + 1); weight = h.weight - (n + 1) }
-
-second_under : (t : TableId) (n : ℕ) (o : Owner) → IsUnder t o → IsUnder t (share_of n o)
-second_under t n (Kept r) under = tt
-second_under t n (Counted h) under = ap (λ (u : TableId). owner_of u h.place n (n + 1)) (ap (λ (x : Known). x.table) under)
-
-row_first : (n : ℕ) (o : Owner) (s : Slot) → row_of (sharing n o) s ≡ row_of o s
-row_first n (Kept r) s = refl
-row_first n (Counted h) s = refl
-
-rows_firsts : (hands : Bool) (ps : List Part) (s : Slot) → rows_in (map (first_of hands) ps) s ≡ rows_in ps s
-rows_firsts hands ps s = sum_by-map (λ (q : Part). row_of q.owner s) (first_of hands) (λ (q : Part). row_of q.owner s) (λ q. row_first (handed hands (adds_of q.owner)) q.owner s) ps
-
--- the owners of a share are under the counts of the seat
-pub share_under : (hands : Bool) (h k : SeatSeen) (ps qs os : List Part) → All (λ q. IsUnder h.holder.table q.owner) ps → AllShared hands h k ps qs os → All (λ q. IsUnder k.holder.table q.owner) os
-share_under hands h k ps qs os under s =
-    subst (λ (t : TableId). All (λ q. IsUnder t q.owner) os) (sym s.same.table) (subst (λ (l : List Part). All (λ q. IsUnder h.holder.table q.owner) l) (sym s.second)
-    (All-map (λ (q : Part). IsUnder h.holder.table q.owner) (second_of hands) ps
-    (All-weaker (λ (q : Part). IsUnder h.holder.table q.owner) (λ (q : Part). IsUnder h.holder.table (second_of hands q).owner) (λ q u. second_under h.holder.table (handed hands (adds_of q.owner)) q.owner u) ps under)))
-
--- what was shared may be given up once the share was
-module _ (hands : Bool) (h k l : SeatSeen) (ps qs os : List Part) (s : AllShared hands h k ps qs os) (spent : IsSpent k l os) where
-  pub still_under : All (λ q. IsUnder h.holder.table q.owner) ps → All (λ q. IsUnder l.holder.table q.owner) qs
-  still_under under =
-      subst (λ (t : TableId). All (λ q. IsUnder t q.owner) qs) (sym (spent.same.table ∙ s.same.table)) (subst (λ (x : List Part). All (λ q. IsUnder h.holder.table q.owner) x) (sym s.first)
-      (All-map (λ (q : Part). IsUnder h.holder.table q.owner) (first_of hands) ps
-      (All-weaker (λ (q : Part). IsUnder h.holder.table q.owner) (λ (q : Part). IsUnder h.holder.table (first_of hands q).owner) (λ q u. first_under h.holder.table (handed hands (adds_of q.owner)) q.owner u) ps under)))
-
-  pub still_listed : ((x : Slot) → rows_in ps x ≤ rows_of h.kept x) → (x : Slot) → rows_in qs x ≤ rows_of l.kept x
-  still_listed listed x = let a = listed x in let b = s.rows x in let d = spent.rows x in let e = ap (λ (y : List Part). rows_in y x) s.first in let f = rows_firsts hands ps x in omega arith

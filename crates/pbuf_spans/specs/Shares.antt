@@ -2,11 +2,11 @@
 use Rattle.std.specs.Prelude.{◌≡◌, ℕ, ◌+◌, ◌<◌, ◌≤◌, Bool, false, ◌&&◌, List, [], map, length, All, if◌then◌else◌, nat_lt, vec_capacity}
 use Rattle.lw_payload.specs.Views.{Slot}
 use Rattle.pbuf_seats.specs.Kept.{rows_of}
-use Rattle.pbuf_seats.specs.Owners.{adds_of, sharing, share_of, HasRoom}
+use Rattle.pbuf_seats.specs.Owners.{adds_of, sharing, share_of}
 use Rattle.pbuf_seats.specs.declared.pbuf.Pbuf.{Pbuf}
 use Rattle.pbuf_seats.specs.Seats.{SeatSeen}
 use Rattle.pbuf_spans.specs.declared.twin.Twin.{Twin}
-use Rattle.pbuf_spans.specs.Parts.{Part, joined, rows_in, weight_in, least_adds, IsUnder, IsSameSeat}
+use Rattle.pbuf_spans.specs.Parts.{Part, joined, rows_in, weight_in, least_adds, IsUnder}
 use Rattle.pbuf_spans.specs.Spans.{bare}
 
 -- how many of its adds an owner hands to the new one: 15 where so many are left beside the one that is used up, and where it hands on any
@@ -25,21 +25,18 @@ second_of hands p = record { owner = share_of (handed hands (adds_of p.owner)) p
 abbrev pub as_shared : Part → Part
 as_shared p = record { owner = p.owner; octets = p.octets; own = false }
 
--- the pbufs ps, which are qs then, and ms have the owners of both chains; the rows of ms came out of the seat h, which is k then
-pub record AllShared (hands : Bool) (h k : SeatSeen) (ps qs ms : List Part) : Type 0 where
+-- the pbufs ps, which are qs then, and ms have the owners of both chains, which shared out the rows and the weight that those of ps had
+pub record AllShared (hands : Bool) (ps qs ms : List Part) : Type 0 where
   pub first : qs ≡ map (first_of hands) ps
   pub second : ms ≡ map (second_of hands) ps
-  pub rows : (s : Slot) → rows_of k.kept s ≡ rows_of h.kept s + rows_in ms s
+  pub rows : (s : Slot) → rows_in qs s + rows_in ms s ≡ rows_in ps s
   pub weight : weight_in qs + weight_in ms ≡ weight_in ps
-  pub holder : k.holder ≡ h.holder
-  pub same : IsSameSeat h k
 
 -- each of the owners of the pbufs ps may add one
 pub record MayShare (h : SeatSeen) (ps : List Part) : Type 0 where
   pub under : All (λ q. IsUnder h.holder.table q.owner) ps
   pub listed : (s : Slot) → rows_in ps s ≤ rows_of h.kept s
   pub adds : 0 < least_adds ps
-  pub rooms : All (λ q. HasRoom (length ps) h q.owner) ps
 
 -- memory for two spans of the octets of these pbufs, and for owners of as many
 pub record IsTwin (ps : List Part) (t : Twin) : Type 0 where
@@ -56,10 +53,8 @@ abbrev pub second_held : Bool → Pbuf → Pbuf
 second_held hands p = record { owner = share_of (handed hands (adds_of p.owner)) p.owner; len = p.len }
 
 -- the same of the owners alone: those of ps, which are qs then, and those of ms
-pub record OwnersShared (hands : Bool) (h k : SeatSeen) (ps qs ms : List Pbuf) : Type 0 where
+pub record OwnersShared (hands : Bool) (ps qs ms : List Pbuf) : Type 0 where
   pub first : qs ≡ map (first_held hands) ps
   pub second : ms ≡ map (second_held hands) ps
-  pub rows : (s : Slot) → rows_of k.kept s ≡ rows_of h.kept s + rows_in (bare ms) s
+  pub rows : (s : Slot) → rows_in (bare qs) s + rows_in (bare ms) s ≡ rows_in (bare ps) s
   pub weight : weight_in (bare qs) + weight_in (bare ms) ≡ weight_in (bare ps)
-  pub holder : k.holder ≡ h.holder
-  pub same : IsSameSeat h k

@@ -3,7 +3,7 @@ ghost use Rattle.std.specs.Prelude.{◌≡◌, ◌+◌, ◌-◌, ◌<◌, ◌≤
 ghost use Rattle.lw_payload.specs.Views.{Slot};
 ghost use Rattle.pbuf_seats.specs.Kept.{rows_of};
 ghost use Rattle.pbuf_spans.specs.Parts.{joined, rows_in, all_own, IsChain};
-ghost use Rattle.pbuf_spans.specs.Cuts.{IsCutTo, IsRewritten};
+ghost use Rattle.pbuf_spans.specs.Cuts.{without_front, with_front, IsCutTo, IsRewritten};
 
 use crate::body::Body;
 use crate::owners::give_up;
@@ -18,6 +18,7 @@ impl Span {
         requires chain { IsChain seat.old.holder.table self.old }
         requires listed { (s : Slot) → rows_in self.old s ≤ rows_of seat.old.kept s }
         ensures octets { joined self.new ≡ drop n (joined self.old) }
+        ensures left { self.new ≡ without_front n self.old }
         ensures chain { IsChain seat.new.holder.table self.new }
         ensures listed { (s : Slot) → rows_in self.new s ≤ rows_of seat.new.kept s }
         ensures cut { IsCutTo seat.old seat.new self.old self.new }
@@ -35,6 +36,7 @@ impl Span {
         requires chain { IsChain seat.old.holder.table self.old }
         requires listed { (s : Slot) → rows_in self.old s ≤ rows_of seat.old.kept s }
         ensures octets { joined self.new ≡ take (length (joined self.old) - n) (joined self.old) }
+        ensures left { self.new ≡ with_front (length (joined self.old) - n) self.old }
         ensures chain { IsChain seat.new.holder.table self.new }
         ensures listed { (s : Slot) → rows_in self.new s ≤ rows_of seat.new.kept s }
         ensures cut { IsCutTo seat.old seat.new self.old self.new }
@@ -65,6 +67,7 @@ impl Span {
         requires chain { IsChain seat.old.holder.table self.old }
         requires listed { (s : Slot) → rows_in self.old s ≤ rows_of seat.old.kept s }
         ensures octets { drop result (joined self.new) ≡ drop n (joined self.old) }
+        ensures left { without_front result self.new ≡ without_front n self.old }
         ensures within { result ≤ length (joined self.new) }
         ensures less { result < n }
         ensures chain { IsChain seat.new.holder.table self.new }
@@ -90,6 +93,7 @@ impl Span {
         requires chain { IsChain seat.old.holder.table self.old }
         requires listed { (s : Slot) → rows_in self.old s ≤ rows_of seat.old.kept s }
         ensures octets { take (length (joined self.new) - result) (joined self.new) ≡ take (length (joined self.old) - n) (joined self.old) }
+        ensures left { with_front (length (joined self.new) - result) self.new ≡ with_front (length (joined self.old) - n) self.old }
         ensures count { length (joined self.new) + n ≡ length (joined self.old) + result }
         ensures less { result < n }
         ensures chain { IsChain seat.new.holder.table self.new }

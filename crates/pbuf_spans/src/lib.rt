@@ -6,8 +6,6 @@ mod cut;
 mod owners;
 mod share;
 mod span;
-#[cfg(test)]
-mod tests;
 mod twin;
 mod window;
 

@@ -3,7 +3,7 @@ ghost use Rattle.std.specs.Prelude.{◌≡◌, ◌+◌, ◌^◌, ◌<◌, ◌≤
 ghost use Rattle.lw_payload.specs.Views.{Slot};
 ghost use Rattle.lw_payload.specs.declared.kinds.Kind.{Kind};
 ghost use Rattle.pbuf_seats.specs.Kept.{rows_of, counts_of};
-ghost use Rattle.pbuf_seats.specs.Owners.{IsOwner, HasRoom, adds_of, row_of, weight_of, ended_at};
+ghost use Rattle.pbuf_seats.specs.Owners.{IsOwner, adds_of, row_of, weight_of, ended_at};
 ghost use Rattle.pbuf_spans.specs.Parts.{rows_in, least_adds, IsUnder, IsSpent, GivesBack};
 ghost use Rattle.pbuf_spans.specs.Spans.{bare};
 ghost use Rattle.pbuf_spans.specs.Shares.{handed, first_held, second_held, MayShare, OwnersShared};
@@ -67,31 +67,13 @@ pub(crate) fn has_adds(pbufs: &[Pbuf]) -> bool
     true
 }
 
-/// Whether each kept count has room for so many owners more.
-#[inline(always)]
-pub(crate) fn has_rooms(pbufs: &[Pbuf], seat: &PoolSeat, more: u32) -> bool
-    ensures { result ≡ true → All (λ p. HasRoom more seat.now p.owner) pbufs.now }
-{
-    for pbuf in pbufs {
-        if !seat.has_room(&pbuf.owner, more) {
-            return false;
-        }
-    }
-    true
-}
-
 /// Adds an owner of each pbuf, for a list that has room for all of them.
 #[inline(always)]
-pub(crate) fn add_owners(
-    pbufs: &mut [Pbuf],
-    others: &mut Vec<Pbuf>,
-    seat: &mut PoolSeat,
-    hands: bool,
-)
-    requires may { MayShare seat.old (bare pbufs.old) }
+pub(crate) fn add_owners(pbufs: &mut [Pbuf], others: &mut Vec<Pbuf>, seat: &PoolSeat, hands: bool)
+    requires may { MayShare seat.now (bare pbufs.old) }
     requires none { others.old.items ≡ [] }
     requires room { length pbufs.old ≤ vec_capacity others.old }
-    ensures { OwnersShared hands seat.old seat.new pbufs.old pbufs.new others.new.items }
+    ensures { OwnersShared hands pbufs.old pbufs.new others.new.items }
 {
     for pbuf in pbufs.iter_mut() {
         others.push_reserved(add_owner(pbuf, seat, hands));
@@ -100,16 +82,13 @@ pub(crate) fn add_owners(
 
 // Adds an owner of one pbuf.
 #[inline(always)]
-fn add_owner(pbuf: &mut Pbuf, seat: &mut PoolSeat, hands: bool) -> Pbuf
-    requires owner { IsOwner seat.old pbuf.old.owner }
-    requires room { HasRoom 1 seat.old pbuf.old.owner }
+fn add_owner(pbuf: &mut Pbuf, seat: &PoolSeat, hands: bool) -> Pbuf
+    requires owner { IsOwner seat.now pbuf.old.owner }
     requires some { 0 < adds_of pbuf.old.owner }
     ensures first { pbuf.new ≡ first_held hands pbuf.old }
     ensures second { result ≡ second_held hands pbuf.old }
     ensures sum { weight_of pbuf.new.owner + weight_of result.owner ≡ weight_of pbuf.old.owner }
-    ensures rows { (s : Slot) → rows_of seat.new.kept s ≡ rows_of seat.old.kept s + row_of result.owner s }
-    ensures sizes { (k : Kind) → length (counts_of k seat.new.kept) ≡ length (counts_of k seat.old.kept) }
-    ensures same { seat.new ≡ record seat.old { kept = seat.new.kept } }
+    ensures rows { (s : Slot) → row_of pbuf.new.owner s + row_of result.owner s ≡ row_of pbuf.old.owner s }
 {
     let adds = adds_to_hand(hands, adds(pbuf));
     Pbuf {

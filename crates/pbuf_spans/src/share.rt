@@ -1,13 +1,12 @@
 //! Shares: a second span of the same octets, with owners of its own.
 ghost use Rattle.std.specs.Prelude.{◌≡◌, ◌<◌, ◌≤◌, [], true, false, length, map, vec_capacity, All, IfOk, OnOk, OnErr};
 ghost use Rattle.std.specs.Arc.{arc_value};
-ghost use Rattle.pbuf_seats.specs.Owners.{HasRoom};
 ghost use Rattle.pbuf_spans.specs.Parts.{joined, least_adds};
 ghost use Rattle.pbuf_spans.specs.Shares.{as_shared, MayShare, AllShared, IsTwin};
 
 use crate::NoMemory;
 use crate::body::Body;
-use crate::owners::{add_owners, has_adds, has_rooms};
+use crate::owners::{add_owners, has_adds};
 use crate::span::Span;
 use crate::twin::Twin;
 use crate::window::Window;
@@ -25,20 +24,13 @@ impl Span {
         has_adds(self.pbufs.as_slice())
     }
 
-    /// Whether each kept count has room for so many owners more.
-    #[inline(always)]
-    pub fn has_rooms(&self, seat: &PoolSeat, more: u32) -> bool
-        ensures { result ≡ true → All (λ p. HasRoom more seat.now p.owner) self.now }
-    {
-        has_rooms(self.pbufs.as_slice(), seat, more)
-    }
-
     /// A second span of the same octets. None of them is copied: a body that was one chain's alone is shared from then on.
     #[inline(always)]
     pub fn share(&mut self, seat: &mut PoolSeat, hands: bool) -> Result<Span, NoMemory>
         requires { MayShare seat.old self.old }
-        ensures shared { IfOk result (λ o. AllShared hands seat.old seat.new self.old self.new o) }
-        ensures err { OnErr result ((self.new ≡ self.old) × (seat.new ≡ seat.old)) }
+        ensures shared { IfOk result (λ o. AllShared hands self.old self.new o) }
+        ensures err { OnErr result (self.new ≡ self.old) }
+        ensures same { seat.new ≡ seat.old }
     {
         let pbufs = seat.list(*self.pbufs.allocator(), self.pbufs.len())?;
         let window = self.second_window(seat)?;
@@ -68,7 +60,8 @@ impl Span {
     pub fn share_with(&mut self, twin: Twin, seat: &mut PoolSeat, hands: bool) -> Span
         requires twin { IsTwin self.old twin }
         requires may { MayShare seat.old self.old }
-        ensures { AllShared hands seat.old seat.new self.old self.new result }
+        ensures shared { AllShared hands self.old self.new result }
+        ensures same { seat.new ≡ seat.old }
     {
         let Twin {
             first,
@@ -114,19 +107,13 @@ impl Span {
 
     // The second span, which gets this window: its owners are added.
     #[inline(always)]
-    fn second(
-        &mut self,
-        window: Window,
-        mut pbufs: Vec<Pbuf>,
-        seat: &mut PoolSeat,
-        hands: bool,
-    ) -> Span
+    fn second(&mut self, window: Window, mut pbufs: Vec<Pbuf>, seat: &PoolSeat, hands: bool) -> Span
         requires window { window.octets ≡ joined self.old }
         requires shared { All (λ p. p.own ≡ false) self.old }
-        requires may { MayShare seat.old self.old }
+        requires may { MayShare seat.now self.old }
         requires none { pbufs.items ≡ [] }
         requires room { length self.old ≤ vec_capacity pbufs }
-        ensures { AllShared hands seat.old seat.new self.old self.new result }
+        ensures { AllShared hands self.old self.new result }
     {
         add_owners(self.pbufs.as_mut_slice(), &mut pbufs, seat, hands);
         let Window { body, from, to } = window;

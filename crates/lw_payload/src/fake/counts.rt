@@ -1,7 +1,7 @@
 //! The counts of owners, place for place.
 ghost use Rattle.std.specs.Prelude.{◌≡◌, ℕ, ◌+◌, ◌^◌, ◌<◌, ◌≤◌, [], ◌∷◌, length, slice_index, vec_capacity, IsSome, IfSome, IsTrue, if◌then◌else◌};
 ghost use Rattle.std.specs.List.{All};
-ghost use Rattle.lw_payload.specs.Fake.{times, free_count, Moves};
+ghost use Rattle.lw_payload.specs.Fake.{times, free_count, Hands};
 
 /// How many pbufs have no owner.
 pub fn free(counts: &[u32]) -> usize
@@ -27,7 +27,8 @@ fn first_free(counts: &[u32]) -> Option<usize>
 fn take_one(counts: &mut [u32]) -> u32
     requires free { 0 < free_count counts.old }
     requires few { length counts.old < 2 ^ 32 }
-    ensures moves { Moves counts.old counts.new [] (result ∷ []) }
+    ensures moves { Hands counts.old counts.new [] (result ∷ []) }
+    ensures alone { slice_index counts.old result ≡ 0 }
     ensures free { free_count counts.new + 1 ≡ free_count counts.old }
 {
     let place = first_free(counts).unwrap();
@@ -41,8 +42,10 @@ pub fn take(counts: &mut [u32], needed: usize, places: &mut Vec<u32>)
     requires few { length counts.old < 2 ^ 32 }
     requires none { places.old.items ≡ [] }
     requires room { needed ≤ vec_capacity places.old }
-    ensures moves { Moves counts.old counts.new [] places.new.items }
+    ensures moves { Hands counts.old counts.new [] places.new.items }
     ensures all { length places.new.items ≡ needed }
+    ensures alone { (place : ℕ) → 0 < times place places.new.items → slice_index counts.old place ≡ 0 }
+    ensures free { free_count counts.new + needed ≡ free_count counts.old }
 {
     for _ in 0..needed {
         places.push(take_one(counts)).unwrap();
@@ -52,7 +55,7 @@ pub fn take(counts: &mut [u32], needed: usize, places: &mut Vec<u32>)
 /// Gives one owner up, and answers whether it was the last.
 fn give(counts: &mut [u32], place: u32) -> bool
     requires { 0 < slice_index counts.old place }
-    ensures moves { Moves counts.old counts.new (place ∷ []) [] }
+    ensures moves { Hands counts.old counts.new (place ∷ []) [] }
     ensures ended { free_count counts.new ≡ free_count counts.old + (if result then 1 else 0) }
 {
     let place = place as usize;
@@ -64,7 +67,7 @@ fn give(counts: &mut [u32], place: u32) -> bool
 pub fn give_all(counts: &mut [u32], places: &[u32]) -> u32
     requires owned { (place : ℕ) → times place places.now ≤ slice_index counts.old place }
     requires few { length places.now < 2 ^ 32 }
-    ensures moves { Moves counts.old counts.new places.now [] }
+    ensures moves { Hands counts.old counts.new places.now [] }
     ensures ended { free_count counts.new ≡ free_count counts.old + result }
 {
     let mut ended = 0;
@@ -81,11 +84,12 @@ pub fn can_grow(counts: &[u32], n: usize) -> bool
     counts.iter().all(|count| (*count as usize).saturating_add(n) <= u32::MAX as usize)
 }
 
-/// Adds an owner.
+/// Adds an owner of a pbuf that has one.
 fn add(counts: &mut [u32], place: u32)
-    requires there { place < length counts.old }
+    requires owned { 0 < slice_index counts.old place }
     requires small { slice_index counts.old place + 1 < 2 ^ 32 }
-    ensures { Moves counts.old counts.new [] (place ∷ []) }
+    ensures moves { Hands counts.old counts.new [] (place ∷ []) }
+    ensures free { free_count counts.new ≡ free_count counts.old }
 {
     counts[place as usize] += 1;
 }
@@ -94,7 +98,8 @@ fn add(counts: &mut [u32], place: u32)
 pub fn add_all(counts: &mut [u32], places: &[u32])
     requires there { (place : ℕ) → times place places.now ≤ slice_index counts.old place }
     requires small { All (λ count. count + length places.now < 2 ^ 32) counts.old }
-    ensures { Moves counts.old counts.new [] places.now }
+    ensures moves { Hands counts.old counts.new [] places.now }
+    ensures free { free_count counts.new ≡ free_count counts.old }
 {
     for place in places {
         add(counts, *place);

@@ -1,6 +1,6 @@
 ghost use Rattle.std.specs.Prelude.{◌≡◌, ◌+◌, ◌-◌, ◌*◌, ◌^◌, ◌<◌, ◌≤◌, min};
 ghost use Rattle.lw_payload.specs.Views.{pool_one, pbufs_of};
-ghost use Rattle.lw_payload.specs.Calls.{last_of};
+ghost use Rattle.lw_payload.specs.Calls.{last_of, asked_after};
 
 use crate::Kind;
 
@@ -19,15 +19,16 @@ impl MakeCounts {
     pub(crate) fn granted(self, kind: Kind, octets: u32) -> MakeCounts
         requires { kind ≡ Kind.Pool → self.made + 1 < 2 ^ 64 }
         ensures least { self.asked ≤ result.asked }
-        ensures exact { result ≡ record self { made = self.made + pool_one kind; asked = min (self.asked + pool_one kind * pbufs_of kind octets) (2 ^ 64 - 1) } }
+        ensures more { min (self.asked + pool_one kind * pbufs_of kind octets) (2 ^ 64 - 1) ≤ result.asked }
+        ensures exact { result ≡ record self { made = self.made + pool_one kind; asked = asked_after kind octets self.asked } }
     {
-        if !kind.is(Kind::Pool) {
-            return self;
-        }
-        MakeCounts {
-            made: self.made + 1,
-            asked: self.asked.saturating_add(u64::from(kind.pbufs(octets))),
-            ..self
+        match kind {
+            Kind::Pool => MakeCounts {
+                made: self.made + 1,
+                asked: self.asked.saturating_add(u64::from(kind.pbufs(octets))),
+                ..self
+            },
+            Kind::Ram | Kind::Rom | Kind::Ref => self,
         }
     }
 
@@ -35,16 +36,17 @@ impl MakeCounts {
     pub(crate) fn denied(self, kind: Kind, octets: u32) -> MakeCounts
         requires { kind ≡ Kind.Pool → self.refused + 1 < 2 ^ 64 }
         ensures least { self.asked ≤ result.asked }
-        ensures exact { result ≡ record self { refused = self.refused + pool_one kind; last_refused = last_of kind octets self.last_refused; asked = min (self.asked + pool_one kind * pbufs_of kind octets) (2 ^ 64 - 1) } }
+        ensures more { min (self.asked + pool_one kind * pbufs_of kind octets) (2 ^ 64 - 1) ≤ result.asked }
+        ensures exact { result ≡ record self { refused = self.refused + pool_one kind; last_refused = last_of kind octets self.last_refused; asked = asked_after kind octets self.asked } }
     {
-        if !kind.is(Kind::Pool) {
-            return self;
-        }
-        MakeCounts {
-            refused: self.refused + 1,
-            last_refused: octets,
-            asked: self.asked.saturating_add(u64::from(kind.pbufs(octets))),
-            ..self
+        match kind {
+            Kind::Pool => MakeCounts {
+                refused: self.refused + 1,
+                last_refused: octets,
+                asked: self.asked.saturating_add(u64::from(kind.pbufs(octets))),
+                ..self
+            },
+            Kind::Ram | Kind::Rom | Kind::Ref => self,
         }
     }
 }

@@ -2,7 +2,7 @@
 ghost use Rattle.std.specs.Prelude.{◌≡◌, ℕ, ◌+◌, ◌-◌, ◌^◌, ◌<◌, ◌≤◌, [], length, min, take, drop, vec_len, vec_capacity, slice_index, IfOk};
 ghost use Rattle.std.specs.List.{All};
 ghost use Rattle.lw_payload.specs.Views.{IsShort};
-ghost use Rattle.lw_payload.specs.Fake.{times, free_count, Moves};
+ghost use Rattle.lw_payload.specs.Fake.{times, free_count, Hands};
 ghost use Rattle.lw_payload.specs.FakeViews.{slots_view, slotted_view, FreesMore};
 
 use super::{Slots, Slotted, counts};
@@ -149,7 +149,8 @@ impl Slotted {
 fn give_up(counts: &mut [u32], places: &mut Vec<u32>, left: usize)
     requires owned { (place : ℕ) → times place places.old.items ≤ slice_index counts.old place }
     requires few { vec_len places.old < 2 ^ 32 }
-    ensures moves { Moves counts.old counts.new (drop left places.old.items) [] }
+    ensures moves { Hands counts.old counts.new (drop left places.old.items) [] }
+    ensures free { free_count counts.old ≤ free_count counts.new }
     ensures places { places.new.items ≡ take left places.old.items }
     ensures fewer { length places.new.items ≤ length places.old.items }
     ensures room { vec_capacity places.new ≡ vec_capacity places.old }

@@ -1,4 +1,5 @@
-ghost use Rattle.std.specs.Prelude.{◌≡◌, ◌<◌, ◌^◌, replicate, IfOk, if◌then◌else◌, vec_len};
+ghost use Rattle.std.specs.Prelude.{◌≡◌, ◌+◌, ◌<◌, ◌≤◌, ◌^◌, replicate, IfOk, if◌then◌else◌, length};
+ghost use Rattle.lw_payload.specs.declared.kinds.Kind.{Kind};
 ghost use Rattle.lw_payload.specs.Views.{pbufs_of};
 ghost use Rattle.lw_payload.specs.Fake.{same_kind, free_count};
 
@@ -16,7 +17,8 @@ pub struct Slots {
     /// How many owners each pbuf has.
     pub counts: Vec<u32>,
     pub makes: MakeCounts,
-    ghost small: { vec_len counts < 2 ^ 32 },
+    ghost small: { length counts.items < 2 ^ 32 },
+    ghost taken: { kept ≡ Kind.Pool → length counts.items ≤ free_count counts.items + makes.asked },
 }
 
 impl Slots {

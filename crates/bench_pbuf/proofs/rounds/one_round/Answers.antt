@@ -20,7 +20,6 @@ spend-others-requires g c =
       listed = λ s.
           let a = made.rows s in
           let b = shared.rows s in
-          let o = shared.own_rows s in
           let r = cut.rows s in
           let f = cut.fewer s in
           let z = spent.rows s in

@@ -25,8 +25,8 @@ returns-then-n-len c =
     let len = c.len-len.ensures in
     let short = c.if-n-len.true in
     let s = front_part c.args.seat.now c.cut_front.new.seat c.args.spans.now.items _ c.index_mut.result.now c.cut_front.new.self c.args.n (record { chain = r.chain; listed = r.listed }) r.full r.some r.within
-    c.index_mut.ensures.value (omega arith) e.octets e.chain e.cut refl in
-    record { octets = s.octets; within = s.within; less = s.less; chain = s.cuts.may.chain; full = s.full; cut = s.cuts.cut; capacity = search rules; fewer = s.fewer }
+    c.index_mut.ensures.value (omega arith) e.octets e.left e.chain e.cut refl in
+    record { octets = s.octets; left_parts = s.left_parts; within = s.within; less = s.less; chain = s.cuts.may.chain; full = s.full; cut = s.cuts.cut; capacity = search rules; fewer = s.fewer }
 
 pub give_up-requires : goal.give_up-requires
 give_up-requires c =
@@ -45,4 +45,4 @@ returns c =
     let len = c.len-len.ensures in
     let s = front_whole c.args.seat.now c.give_up.new.seat c.args.spans.now.items c.remove-first.new.self.items c.remove-first.result c.args.n c.len-len.result _ (record { chain = r.chain; listed = r.listed }) r.full r.some r.within
     c.remove-first.ensures.value (omega arith) c.if-n-len.false refl c.remove-first.ensures.items c.give_up.ensures.spent in
-    record { octets = s.octets; within = s.within; less = s.less; chain = s.cuts.may.chain; full = s.full; cut = s.cuts.cut; capacity = search rules; fewer = s.fewer }
+    record { octets = s.octets; left_parts = s.left_parts; within = s.within; less = s.less; chain = s.cuts.may.chain; full = s.full; cut = s.cuts.cut; capacity = search rules; fewer = s.fewer }

@@ -19,10 +19,11 @@ returns-then-n-len c =
     let test = c.if-n-len.true in
     let short : c.args.n < length (joined c.args.last) = omega arith in
     let s = back_part c.args.seat.now c.cut_back.new.seat c.args.spans.now.items c.push_reserved.new.self.items c.args.last c.cut_back.new.self c.args.n (record { chain = r.chain; listed = r.listed }) r.full short
-    e.octets e.chain e.cut c.push_reserved.ensures.items in
+    e.octets e.left e.chain e.cut c.push_reserved.ensures.items in
     record {
       left = omega arith;
       octets = s.octets;
+      left_parts = s.left_parts;
       same = λ more. absurd (omega arith);
       chain = s.cuts.may.chain;
       full = s.full;
@@ -46,6 +47,7 @@ returns c =
     record {
       left = omega arith;
       octets = s.octets;
+      left_parts = s.left_parts;
       same = λ more. refl;
       chain = s.cuts.may.chain;
       full = s.full;

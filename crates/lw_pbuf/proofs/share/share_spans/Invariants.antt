@@ -5,6 +5,7 @@ use Rattle.lw_pbuf.proofs.share.share_spans.Given as goal
 
 abbrev pub invariant-loop-twin : goal.invariant-loop-twin
 invariant-loop-twin l = record {
-  spanned : Spanned l.hands l.fn.seat l.seat l.fn.spans l.spans l.others.items l.twin-iterator.rest.items l.i;
+  spanned : Spanned l.hands l.fn.spans l.spans l.others.items l.twin-iterator.rest.items l.i;
+  same : l.seat ≡ l.fn.seat;
   capacity : vec_capacity l.others ≡ vec_capacity l.fn.others;
 }

@@ -1,19 +1,18 @@
-use Rattle.std.proofs.Common.{rules, ◌≡◌, ℕ, ◌+◌, ◌-◌, true, sym, ◌∙◌, refl, subst, arith}
+use Rattle.std.proofs.Common.{rules, ◌≡◌, ℕ, ◌+◌, ◌-◌, length, true, refl, subst, arith}
 use Rattle.pbuf_spans.specs.Spans.{parts_of}
 use Rattle.lw_pbuf.specs.Takes.{places_of, GivesNone, AreTried}
 use Rattle.pbuf_spans.proofs.Spans.{length-parts_of}
-use Rattle.lw_pbuf.proofs.Taken.{counted_same, places_same, fills_next, fills_short, claims_most, some_pbufs}
+use Rattle.lw_pbuf.proofs.Taken.{places_same, fills_next, fills_short, pool_most, some_pbufs}
 use Rattle.lw_pbuf.proofs.take.fill.Goals as goal
 
 pub take_from-requires-clause-few : goal.take_from-requires-clause-few
 take_from-requires-clause-few c =
     let l = c.loop-left in
     let f = l.invariant.fills in
-    let g = f.taken.gives in
     λ e.
-    let q = c.requires.few (sym (counted_same c.args.seat.now l.seat c.args.kind g.sizes) ∙ e) in
-    let claimed = g.claimed in
-    let most = claims_most c.args.seat.now l.seat c.args.kind (parts_of true c.args.octets.now l.pbufs.items) f.taken in
+    let q = c.requires.few e in
+    let claimed = f.taken.claimed in
+    let most = pool_most c.args.kind (length (parts_of true c.args.octets.now l.pbufs.items)) in
     let parts = length-parts_of true c.args.octets.now l.pbufs.items in
     let few = f.few in
     let one = some_pbufs c.args.kind l.left (let t = c.loop-left-test.true in omega arith) in

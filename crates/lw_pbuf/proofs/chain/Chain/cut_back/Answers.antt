@@ -1,12 +1,13 @@
 use Rattle.std.proofs.Common.{◌≡◌, ◌-◌, ◌++◌, ◌∙◌, take, length, ap, sym, subst, arith}
+use Rattle.std.specs.Arc.{arc_value}
 use Rattle.atomic_table.specs.Seated.{TableId}
 use Rattle.pbuf_spans.specs.Parts.{joined, IsChain}
 use Rattle.lw_pbuf.specs.Chains.{ChainSeen, all_parts}
-use Rattle.pbuf_spans.specs.Cuts.{IsCutTo}
+use Rattle.pbuf_spans.specs.Cuts.{with_front, IsCutTo}
 use Rattle.lw_pbuf.proofs.Joined.{few_parts, length-joined-append}
-use Rattle.lw_pbuf.proofs.Spans.{chain-back}
+use Rattle.lw_pbuf.proofs.Spans.{chain-front, chain-back}
 use Rattle.lw_pbuf.proofs.Freed.{of_chain, give-front}
-use Rattle.lw_pbuf.proofs.SpanCuts.{Cuts, cuts_last_octets, cuts_first_octets, octets_back}
+use Rattle.lw_pbuf.proofs.SpanCuts.{Cuts, cuts_last_octets, cuts_first_octets, octets_back, parts_back}
 use Rattle.lw_pbuf.proofs.chain.Chain.cut_back.Goals as goal
 
 pub back_off-left-requires-clause-chain : goal.back_off-left-requires-clause-chain
@@ -45,6 +46,12 @@ pub returns-clause-octets : goal.returns-clause-octets
 returns-clause-octets c =
     octets_back c.self.inside.first c.cut_back.new.self (all_parts c.self.inside.rest.items) (all_parts c.back_off-left.new.spans.items) c.args.n c.back_off-left.result c.back_off-left.ensures.left c.back_off-left.ensures.octets c.cut_back.ensures.octets
     ∙ ap (λ (x : ChainSeen). take (length (joined x.parts) - c.args.n) (joined x.parts)) c.self.view_is
+
+pub returns-clause-left : goal.returns-clause-left
+returns-clause-left c =
+    let some = (chain-front (arc_value c.self.inside.counts) c.self.inside.first (all_parts c.self.inside.rest.items) c.self.invariant.0).some in
+    parts_back c.self.inside.first c.cut_back.new.self (all_parts c.self.inside.rest.items) (all_parts c.back_off-left.new.spans.items) c.args.n c.back_off-left.result some c.back_off-left.ensures.left c.back_off-left.ensures.left_parts c.cut_back.ensures.left
+    ∙ ap (λ (x : ChainSeen). with_front (length (joined x.parts) - c.args.n) x.parts) c.self.view_is
 
 pub returns-clause-cut : goal.returns-clause-cut
 returns-clause-cut c = subst (λ (x : ChainSeen). IsCutTo c.args.seat.now c.cut_back.new.seat x.parts (c.cut_back.new.self ++ all_parts c.back_off-left.new.spans.items)) c.self.view_is (whole c).cut

@@ -1,12 +1,13 @@
 use Rattle.std.proofs.Common.{◌≡◌, ◌-◌, ◌++◌, ◌∙◌, drop, length, min, ap, sym, subst, arith}
+use Rattle.std.specs.Arc.{arc_value}
 use Rattle.atomic_table.specs.Seated.{TableId}
 use Rattle.pbuf_spans.specs.Parts.{joined, IsChain}
 use Rattle.lw_pbuf.specs.Chains.{ChainSeen, all_parts}
-use Rattle.pbuf_spans.specs.Cuts.{IsCutTo}
+use Rattle.pbuf_spans.specs.Cuts.{without_front, IsCutTo}
 use Rattle.lw_pbuf.proofs.Joined.{few_parts, length-joined-append}
 use Rattle.lw_pbuf.proofs.Spans.{chain-back}
 use Rattle.lw_pbuf.proofs.Freed.{of_chain}
-use Rattle.lw_pbuf.proofs.SpanCuts.{Cuts, cuts_front_octets, cuts_back_octets, octets_front}
+use Rattle.lw_pbuf.proofs.SpanCuts.{Cuts, cuts_front_octets, cuts_back_octets, octets_front, parts_front}
 use Rattle.lw_pbuf.proofs.chain.Chain.cut_front.Goals as goal
 
 pub front_off-requires-clause-within : goal.front_off-requires-clause-within
@@ -43,6 +44,13 @@ returns-clause-octets c =
     let most : c.min-in_first.result ≡ min c.args.n (length (joined c.self.inside.first)) = let n = c.len.ensures in let m = c.min-in_first.ensures in omega arith in
     octets_front c.self.inside.first c.cut_front.new.self (all_parts c.self.inside.rest.items) (all_parts c.front_off.new.spans.items) c.args.n c.min-in_first.result most c.cut_front.ensures.octets c.front_off.ensures.octets
     ∙ ap (λ (x : ChainSeen). drop c.args.n (joined x.parts)) c.self.view_is
+
+pub returns-clause-left : goal.returns-clause-left
+returns-clause-left c =
+    let most : c.min-in_first.result ≡ min c.args.n (length (joined c.self.inside.first)) = let n = c.len.ensures in let m = c.min-in_first.ensures in omega arith in
+    let some = (chain-back (arc_value c.self.inside.counts) c.self.inside.first (all_parts c.self.inside.rest.items) c.self.invariant.0).some in
+    parts_front c.self.inside.first c.cut_front.new.self (all_parts c.self.inside.rest.items) (all_parts c.front_off.new.spans.items) c.args.n c.min-in_first.result some most c.cut_front.ensures.left c.front_off.ensures.left_parts
+    ∙ ap (λ (x : ChainSeen). without_front c.args.n x.parts) c.self.view_is
 
 pub returns-clause-cut : goal.returns-clause-cut
 returns-clause-cut c = subst (λ (x : ChainSeen). IsCutTo c.args.seat.now c.front_off.new.seat x.parts (c.cut_front.new.self ++ all_parts c.front_off.new.spans.items)) c.self.view_is (whole c).cut

@@ -6,7 +6,7 @@ use Rattle.atomic_table.specs.Seated.{TableId}
 use Rattle.pbuf_seats.specs.Seats.{SeatSeen}
 use Rattle.pbuf_spans.specs.Parts.{Part, IsChain}
 use Rattle.lw_pbuf.specs.Chains.{ChainSeen, all_parts, NoneEmpty}
-use Rattle.pbuf_spans.specs.Shares.{MayShare, AllShared}
+use Rattle.pbuf_spans.specs.Shares.{MayShare}
 use Rattle.lw_pbuf.proofs.Sharing.{may_front, may_behind, whole_share, is_shared_to}
 use Rattle.lw_pbuf.proofs.chain.Chain.share_all.Goals as goal
 
@@ -23,36 +23,33 @@ share_spans-requires-clause-may c =
     let same : c.twins.new.seat ≡ c.args.seat.now = search rules in
     let may = subst (λ (x : SeatSeen). MayShare x (c.self.inside.first ++ all_parts c.self.inside.rest.items)) (sym same) (subst (λ (l : List Part). MayShare c.args.seat.now l) (sym whole) c.requires.may) in
     subst (λ (l : List (List Part)). MayShare c.share_with-first.new.seat (all_parts l)) (sym c.as_mut_slice.ensures.value)
-    (may_behind c.args.hands c.twins.new.seat c.share_with-first.new.seat c.self.inside.first (all_parts c.self.inside.rest.items) c.share_with-first.new.self c.share_with-first.result may c.share_with-first.ensures)
+    (subst (λ (x : SeatSeen). MayShare x (all_parts c.self.inside.rest.items)) (sym c.share_with-first.ensures.same) (may_behind c.twins.new.seat c.self.inside.first (all_parts c.self.inside.rest.items) may))
 
 pub invariant_of-result : goal.invariant_of-result
 invariant_of-result c =
-    let same : c.twins.new.seat ≡ c.args.seat.now = search rules in
-    let front = subst (λ (x : SeatSeen). AllShared c.args.hands x c.share_with-first.new.seat c.self.inside.first c.share_with-first.new.self c.share_with-first.result) same c.share_with-first.ensures in
-    let s = whole_share c.args.hands c.args.seat.now c.share_with-first.new.seat c.share_spans.new.seat (arc_value c.self.inside.counts) c.self.inside.first c.share_with-first.new.self c.share_with-first.result
+    let front = c.share_with-first.ensures.shared in
+    let s = whole_share c.args.hands (arc_value c.self.inside.counts) c.self.inside.first c.share_with-first.new.self c.share_with-first.result
     c.self.inside.rest.items c.as_mut_slice.result.now c.share_spans.new.spans c.share_spans.new.others.items c.self.inside.rest.len c.self.invariant front c.as_mut_slice.ensures.value c.as_mut_slice.ensures.len c.share_spans.auto.spans
     c.share_spans.ensures.shared c.share_spans.ensures.full in
     subst (λ (t : TableId). IsChain t (c.share_with-first.result ++ all_parts c.share_spans.new.others.items) × NoneEmpty c.share_spans.new.others.items) (sym (c.requires.table ∙ sym (ap (λ (x : ChainSeen). x.table) c.self.view_is))) s.second
 
 pub invariant_of-self : goal.invariant_of-self
 invariant_of-self c =
-    let same : c.twins.new.seat ≡ c.args.seat.now = search rules in
-    let front = subst (λ (x : SeatSeen). AllShared c.args.hands x c.share_with-first.new.seat c.self.inside.first c.share_with-first.new.self c.share_with-first.result) same c.share_with-first.ensures in
-    let s = whole_share c.args.hands c.args.seat.now c.share_with-first.new.seat c.share_spans.new.seat (arc_value c.self.inside.counts) c.self.inside.first c.share_with-first.new.self c.share_with-first.result
+    let front = c.share_with-first.ensures.shared in
+    let s = whole_share c.args.hands (arc_value c.self.inside.counts) c.self.inside.first c.share_with-first.new.self c.share_with-first.result
     c.self.inside.rest.items c.as_mut_slice.result.now c.share_spans.new.spans c.share_spans.new.others.items c.self.inside.rest.len c.self.invariant front c.as_mut_slice.ensures.value c.as_mut_slice.ensures.len c.share_spans.auto.spans
     c.share_spans.ensures.shared c.share_spans.ensures.full in
     s.first
 
 pub returns-clause-shared : goal.returns-clause-shared
 returns-clause-shared c =
-    let same : c.twins.new.seat ≡ c.args.seat.now = search rules in
-    let front = subst (λ (x : SeatSeen). AllShared c.args.hands x c.share_with-first.new.seat c.self.inside.first c.share_with-first.new.self c.share_with-first.result) same c.share_with-first.ensures in
-    let s = whole_share c.args.hands c.args.seat.now c.share_with-first.new.seat c.share_spans.new.seat (arc_value c.self.inside.counts) c.self.inside.first c.share_with-first.new.self c.share_with-first.result
+    let front = c.share_with-first.ensures.shared in
+    let s = whole_share c.args.hands (arc_value c.self.inside.counts) c.self.inside.first c.share_with-first.new.self c.share_with-first.result
     c.self.inside.rest.items c.as_mut_slice.result.now c.share_spans.new.spans c.share_spans.new.others.items c.self.inside.rest.len c.self.invariant front c.as_mut_slice.ensures.value c.as_mut_slice.ensures.len c.share_spans.auto.spans
     c.share_spans.ensures.shared c.share_spans.ensures.full in
     let count = s.count in
     let view = ap (λ (x : ChainSeen). x.room) c.self.view_is in
-    is_shared_to c.args.hands c.args.seat.now c.share_spans.new.seat c.args.self.now
+    is_shared_to c.args.hands c.args.self.now
     record { table = arc_value c.self.inside.counts; parts = c.share_with-first.new.self ++ all_parts (refill c.self.inside.rest.len c.self.inside.rest.items c.share_spans.new.spans); room = vec_capacity c.self.inside.rest - length (refill c.self.inside.rest.len c.self.inside.rest.items c.share_spans.new.spans) }
     record { table = arc_value c.args.counts; parts = c.share_with-first.result ++ all_parts c.share_spans.new.others.items; room = vec_capacity c.share_spans.new.others - length c.share_spans.new.others.items }
     (c.self.inside.first ++ all_parts c.self.inside.rest.items) (ap (λ (x : ChainSeen). x.parts) c.self.view_is) s.shared (ap (λ (x : ChainSeen). x.table) c.self.view_is) c.requires.table (omega arith)

@@ -5,7 +5,7 @@ pub share-requires : goal.share-requires
 share-requires c = is_of _ _ c.requires
 
 pub returns-clause-shared : goal.returns-clause-shared
-returns-clause-shared c = shared_ok _ _ _ _ _ c.share.ensures.shared
+returns-clause-shared c = shared_ok _ _ _ _ _ c.share.ensures.same c.share.ensures.shared
 
 pub returns-clause-err : goal.returns-clause-err
-returns-clause-err c = shared_err _ _ _ _ _ c.share.ensures.err
+returns-clause-err c = shared_err _ _ _ _ _ c.share.ensures.same c.share.ensures.err

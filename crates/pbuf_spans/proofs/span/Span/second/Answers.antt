@@ -63,6 +63,6 @@ returns c =
     let text = slice_range (octets_of s.body) s.from s.to in
     let window = slice_range (arc_value w.body).items w.from w.to in
     let same = ap (λ (x : WindowSeen). x.octets) c.window.view_is ∙ (c.requires.window ∙ sym (seen_joined s.body s.from s.to s.pbufs.items c.args.self.now c.self.invariant c.self.view_is)) in
-    subst (λ (l : List Pbuf). AllShared c.args.hands c.args.seat.now c.add_owners.new.seat c.args.self.now (parts_of (is_own s.body) text l) (parts_of false window c.add_owners.new.others.items)) (sym (back c))
-    (all_shared (is_own s.body) text s.pbufs.items c.args.self.now c.self.view_is c.args.hands c.args.seat.now c.add_owners.new.seat c.add_owners.new.pbufs c.add_owners.new.others.items window c.requires.shared same
-    (subst (λ (l : List Pbuf). OwnersShared c.args.hands c.args.seat.now c.add_owners.new.seat l c.add_owners.new.pbufs c.add_owners.new.others.items) c.as_mut_slice.ensures.value c.add_owners.ensures))
+    subst (λ (l : List Pbuf). AllShared c.args.hands c.args.self.now (parts_of (is_own s.body) text l) (parts_of false window c.add_owners.new.others.items)) (sym (back c))
+    (all_shared (is_own s.body) text s.pbufs.items c.args.self.now c.self.view_is c.args.hands c.add_owners.new.pbufs c.add_owners.new.others.items window c.requires.shared same
+    (subst (λ (l : List Pbuf). OwnersShared c.args.hands l c.add_owners.new.pbufs c.add_owners.new.others.items) c.as_mut_slice.ensures.value c.add_owners.ensures))

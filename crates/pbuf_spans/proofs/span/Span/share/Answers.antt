@@ -19,4 +19,4 @@ second-requires c =
     }
 
 pub returns-clause-shared : goal.returns-clause-shared
-returns-clause-shared c = whole_share c.args.self.now c.second_window.new.self c.in_ok-window.ensures.shared c.args.hands c.args.seat.now c.second_window.new.seat c.second.new.seat c.second.new.self c.second.result (c.in_ok-window.ensures.same ∙ c.in_ok-pbufs.ensures.same) c.second.ensures
+returns-clause-shared c = whole_share c.args.self.now c.second_window.new.self c.in_ok-window.ensures.shared c.args.hands c.second.new.self c.second.result c.second.ensures

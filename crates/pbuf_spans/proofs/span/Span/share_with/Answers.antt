@@ -13,5 +13,5 @@ second-requires c =
       room = let n = between_count c.args.self.now c.look_through.new.self now in let r = c.requires.twin.room in omega arith;
     }
 
-pub returns : goal.returns
-returns c = whole_share c.args.self.now c.look_through.new.self c.look_through.ensures.shared c.args.hands c.args.seat.now c.look_through.new.seat c.second.new.seat c.second.new.self c.second.result c.look_through.ensures.same c.second.ensures
+pub returns-clause-shared : goal.returns-clause-shared
+returns-clause-shared c = whole_share c.args.self.now c.look_through.new.self c.look_through.ensures.shared c.args.hands c.second.new.self c.second.result c.second.ensures

@@ -10,7 +10,7 @@ add_all-requires-clause-there c =
 
 pub returns-clause-shared : goal.returns-clause-shared
 returns-clause-shared c =
-    let from = rw (c.deref_mut.ensures.value, c.deref-2.ensures.value) at c.add_all.ensures in
+    let from = rw (c.deref_mut.ensures.value, c.deref-2.ensures.value) at c.add_all.ensures.moves in
     pool_shared c.args.home.now c.args.self.now ((with_items c.args.home.now.counts c.add_all.new.counts).items) c.add_all.new.counts c.in_ok-octets.octets.items c.in_ok-octets.places.items (c.args.self.now.shares - 1)
     (min (vec_capacity c.in_ok-octets.octets - length c.in_ok-octets.octets.items) (vec_capacity c.in_ok-octets.places - length c.in_ok-octets.places.items))
     c.requires c.in_ok-octets.ensures.0 c.in_ok-octets.ensures.1 (omega arith) (with_items_is c.args.home.now.counts c.add_all.new.counts (omega arith)) from

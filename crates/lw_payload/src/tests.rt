@@ -1,3 +1,0 @@
-//! Payloads of both kinds.
-mod octet_lists;
-mod pools;
