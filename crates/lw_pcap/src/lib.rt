@@ -5,8 +5,6 @@ mod capture;
 mod fault;
 mod header;
 mod record;
-#[cfg(test)]
-mod tests;
 
 pub use capture::{Capture, read_capture};
 pub use fault::PcapFault;

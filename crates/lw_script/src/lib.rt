@@ -5,8 +5,6 @@ mod addresses;
 mod lines;
 mod parts;
 mod reader;
-#[cfg(test)]
-mod tests;
 
 pub use parts::{Call, CallList, Profile, Script};
 pub use reader::{ScriptFault, read_script};
