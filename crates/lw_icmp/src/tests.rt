@@ -18,28 +18,6 @@ fn an_echo_request_is_answered(rt: HostRuntime) -> Result<(), Fail> {
     Ok(())
 }
 
-// The answer stands behind what was there.
-#[test]
-fn what_is_no_request_adds_nothing(rt: HostRuntime) -> Result<(), Fail> {
-    let mut out = Vec::from_slice(rt.alloc(), b"before".as_slice())?;
-    let mut wrong_sum = REQUEST;
-    wrong_sum[3] = 0x69;
-    let mut code = REQUEST;
-    code[1] = 1;
-    code[3] = 0x67;
-    for octets in [
-        ANSWER.as_slice(),
-        wrong_sum.as_slice(),
-        code.as_slice(),
-        &REQUEST[..7],
-        b"".as_slice(),
-    ] {
-        assert_eq!(rt; echo_reply(octets, &mut out)?, false);
-        assert_eq!(rt; out.as_slice(), b"before".as_slice());
-    }
-    Ok(())
-}
-
 // The header and the first octets of a UDP datagram from 10.0.0.2 port 4000 to port 9, and the message
 // that tells of it.
 #[test]
@@ -56,21 +34,5 @@ fn unreachable_quotes_the_header_and_eight_octets(rt: HostRuntime) -> Result<(),
     wanted.extend_from_slice(header.as_slice())?;
     wanted.extend_from_slice(&data[..8])?;
     assert_eq!(rt; out.as_slice(), wanted.as_slice());
-    Ok(())
-}
-
-// A datagram of fewer than eight octets is quoted whole.
-#[test]
-fn unreachable_quotes_what_there_is(rt: HostRuntime) -> Result<(), Fail> {
-    let mut out = Vec::new(rt.alloc());
-    unreachable(
-        rt.alloc(),
-        2,
-        b"header".as_slice(),
-        b"ab".as_slice(),
-        &mut out,
-    )?;
-    assert_eq!(rt; out.len(), 16);
-    assert!(rt; out.ends_with(b"headerab".as_slice()));
     Ok(())
 }

@@ -27,17 +27,6 @@ did ok
 end core 2 out 1
 ";
 
-const EMPTY_TRANSCRIPT: &[u8] = b"lwip 1 serial
-core 1 0 stop -> ok
-actor 0
-call 1 feed all
-did fed 0
-call 2 stop
-@1
-did ok
-end core 1 out 0
-";
-
 #[test]
 fn each_form_of_capture(rt: HostRuntime) -> Result<(), Fail> {
     for form in [LITTLE, LITTLE_NANO, BIG, BIG_NANO] {
@@ -46,65 +35,6 @@ fn each_form_of_capture(rt: HostRuntime) -> Result<(), Fail> {
         assert_eq!(rt; ran.status, 0, "magic {:?}", form.magic);
         assert_eq!(rt; ran.out.octets(), ARP_TRANSCRIPT, "magic {:?}", form.magic);
         assert_eq!(rt; ran.err.octets(), b"".as_slice());
-    }
-    Ok(())
-}
-
-// A capture of no frames, and captures that are cut in their header and in their record.
-#[test]
-fn cut_captures(rt: HostRuntime) -> Result<(), Fail> {
-    for (most, status, out, err) in [
-        (24, 0, EMPTY_TRANSCRIPT, b"".as_slice()),
-        (34, 4, b"".as_slice(), b"lwip: capture at 24\n".as_slice()),
-        (81, 4, b"".as_slice(), b"lwip: capture at 24\n".as_slice()),
-        (23, 4, b"".as_slice(), b"lwip: capture at 0\n".as_slice()),
-        (0, 4, b"".as_slice(), b"lwip: capture at 0\n".as_slice()),
-    ] {
-        let capture = arp_request(rt.alloc(), LITTLE, most)?;
-        let ran = run(rt.alloc(), SERIAL, SCRIPT, &capture, SURE)?;
-        assert_eq!(rt; ran.status, status, "{most} octets");
-        assert_eq!(rt; ran.out.octets(), out, "{most} octets");
-        assert_eq!(rt; ran.err.octets(), err, "{most} octets");
-    }
-    Ok(())
-}
-
-#[test]
-fn scripts_that_are_none(rt: HostRuntime) -> Result<(), Fail> {
-    let capture = arp_request(rt.alloc(), LITTLE, 82)?;
-    for (script, err) in [
-        (
-            b"lwip 1\nnett\n".as_slice(),
-            b"lwip: script line 2\n".as_slice(),
-        ),
-        (b"".as_slice(), b"lwip: script line 1\n".as_slice()),
-        (b"lwip 1\n".as_slice(), b"lwip: script line 2\n".as_slice()),
-        (b"lwip 9\n".as_slice(), b"lwip: script line 1\n".as_slice()),
-    ] {
-        let ran = run(rt.alloc(), SERIAL, script, &capture, SURE)?;
-        assert_eq!(rt; ran.status, 3);
-        assert_eq!(rt; ran.out.octets(), b"".as_slice());
-        assert_eq!(rt; ran.err.octets(), err);
-    }
-    Ok(())
-}
-
-// Words that are no form are refused before any file is looked for.
-#[test]
-fn words_of_no_form(rt: HostRuntime) -> Result<(), Fail> {
-    let failing = Failing { files: 1, ..SURE };
-    for words in [
-        "",
-        "run",
-        "serial",
-        "serial script",
-        "serial script capture capture",
-        "Serial script capture",
-    ] {
-        let ran = run(rt.alloc(), words, b"".as_slice(), b"".as_slice(), failing)?;
-        assert_eq!(rt; ran.status, 2, "words {words}");
-        assert_eq!(rt; ran.out.octets(), b"".as_slice());
-        assert_eq!(rt; ran.err.octets(), b"lwip: usage\n".as_slice());
     }
     Ok(())
 }
@@ -138,16 +68,6 @@ fn each_find_and_read_fails(rt: HostRuntime) -> Result<(), Fail> {
     Ok(())
 }
 
-#[test]
-fn files_that_are_not_there(rt: HostRuntime) -> Result<(), Fail> {
-    for words in ["serial script there", "serial there capture"] {
-        let ran = run(rt.alloc(), words, SCRIPT, b"".as_slice(), SURE)?;
-        assert_eq!(rt; ran.status, 5, "words {words}");
-        assert_eq!(rt; ran.err.octets(), b"lwip: read fault\n".as_slice());
-    }
-    Ok(())
-}
-
 // The transcript has 305 octets, which are written by pieces of 100.
 #[test]
 fn each_write_fails(rt: HostRuntime) -> Result<(), Fail> {
@@ -165,49 +85,6 @@ fn each_write_fails(rt: HostRuntime) -> Result<(), Fail> {
         assert_eq!(rt; written.len(), count, "call {out}");
         assert!(rt; ARP_TRANSCRIPT.starts_with(written), "call {out}");
         assert_eq!(rt; ran.err.octets(), b"".as_slice());
-    }
-    Ok(())
-}
-
-// A status whose text can't be written stays.
-#[test]
-fn a_text_that_is_lost(rt: HostRuntime) -> Result<(), Fail> {
-    let capture = arp_request(rt.alloc(), LITTLE, 34)?;
-    for (words, script, status) in [
-        ("run", SCRIPT, 2),
-        (SERIAL, b"nett".as_slice(), 3),
-        (SERIAL, SCRIPT, 4),
-    ] {
-        let failing = Failing { err: 1, ..SURE };
-        let ran = run(rt.alloc(), words, script, &capture, failing)?;
-        assert_eq!(rt; ran.status, status);
-        assert_eq!(rt; ran.out.octets(), b"".as_slice());
-        assert_eq!(rt; ran.err.octets(), b"".as_slice());
-    }
-    Ok(())
-}
-
-// One octet more than a file may have, and just as many.
-#[test]
-fn files_at_their_limit(rt: HostRuntime) -> Result<(), Fail> {
-    let long = vec![in rt.alloc(); 0u8; 16_777_217]?;
-    let (script, _) = long.split_at(1_048_577);
-    let (whole_script, _) = long.split_at(1_048_576);
-    let (whole_capture, _) = long.split_at(16_777_216);
-    for (script, capture, status, err) in [
-        (script, b"".as_slice(), 7, b"lwip: too long\n".as_slice()),
-        (
-            whole_script,
-            b"".as_slice(),
-            3,
-            b"lwip: script line 1\n".as_slice(),
-        ),
-        (SCRIPT, long.as_slice(), 7, b"lwip: too long\n".as_slice()),
-        (SCRIPT, whole_capture, 4, b"lwip: capture at 0\n".as_slice()),
-    ] {
-        let ran = run(rt.alloc(), SERIAL, script, capture, SURE)?;
-        assert_eq!(rt; ran.status, status);
-        assert_eq!(rt; ran.err.octets(), err);
     }
     Ok(())
 }
