@@ -39,15 +39,6 @@ fn hold(rt: &impl Abort, table: &mut ArpTable<u32>, ip: Ip, packet: u32) -> Opti
     table.hold(ip, packet)
 }
 
-    let mut gone = Vec::new(alloc);
-    for _ in 0..ticks {
-        asks = Vec::with_capacity(alloc, 10)?;
-        gone = Vec::with_capacity(alloc, 10)?;
-        table.age(&mut asks, &mut gone);
-    }
-    Ok((asks, gone))
-}
-
 #[test]
 fn of_two_packets_the_later_goes_out_with_the_answer(rt: HostRuntime) -> Result<(), Fail> {
     let mut table = looked_up(rt.alloc(), &[3])?;

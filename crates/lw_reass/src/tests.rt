@@ -41,10 +41,6 @@ fn add(alloc: Global, table: &mut Reass<Vec<u8>>, h: &IpHead, octets: &[u8]) -> 
     })
 }
 
-    table.age(gone);
-    Ok(())
-}
-
 #[test]
 fn the_third_the_first_and_the_second_make_a_whole(rt: HostRuntime) -> Result<(), Fail> {
     let mut table = Reass::new(rt.alloc())?;
@@ -77,11 +73,4 @@ fn the_third_the_first_and_the_second_make_a_whole(rt: HostRuntime) -> Result<()
     let again = add(rt.alloc(), &mut table, &head(7, 8, true), b"ijklmnop")?;
     assert!(rt; matches!(&again, Came::Kept));
     Ok(())
-}
-
-    for place in (from..300).rev() {
-        let octets = fragment(place);
-        came = add(alloc, table, &head(9, 8 * place, place != 299), &octets)?;
-    }
-    Ok(came)
 }

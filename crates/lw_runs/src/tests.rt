@@ -18,31 +18,6 @@ fn kept(runs: &mut Runs<Vec<u8>>, alloc: Global, from: u16, octets: &[u8]) -> Re
     Ok(true)
 }
 
-    for i in 0..200u16 {
-        let number = (u16::from(first) + u16::from(step) * i) % 200;
-        kept(&mut runs, alloc, 4 * number, &[number as u8, 255])?;
-    }
-    Ok(runs)
-}
-
-    if !runs.overlaps(800, 3) {
-        text.extend_from_slice(runs.octets_with(alloc, 800, end)?.as_slice())?;
-    }
-    Ok(text)
-}
-
-    let mut body = Vec::from_slice(alloc, octets)?;
-    let Ok(n) = u16::try_from(body.as_slice().len()) else {
-        return Ok(body);
-    };
-    if n == 0 || runs.overlaps(from, u32::from(n)) {
-        return Ok(body);
-    }
-    runs.room()?;
-    runs.room_to_join(&mut body)?;
-    Ok(runs.join_with(from, body))
-}
-
 #[test]
 fn octets_are_kept_by_position(rt: HostRuntime) -> Result<(), Fail> {
     let mut runs = Runs::new(rt.alloc());
