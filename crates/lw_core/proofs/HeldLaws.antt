@@ -8,7 +8,7 @@ use Rattle.lw_payload.specs.Views.{View, HomeView}
 use Rattle.lw_payload.specs.declared.kinds.Kind.{Kind}
 use Rattle.lw_payload.specs.Calls.{IsCut, IsMade, IsSpent, KeepsHome}
 use Rattle.lw_payload.specs.Lists.{AreOf}
-use Rattle.lw_payload.proofs.ListLaws.{AreOf-spent}
+use Rattle.lw_core.proofs.GivenLaws.{AreOf-spent}
 use Rattle.lw_runs.specs.Kept.{Holds}
 use Rattle.lw_runs.proofs.HoldsLaws.{AreOf-holds, All-back, All-front, Holds-refl, Holds-swap, Holds-then}
 use Rattle.lw_arp.specs.Neighbours.{WeighAlike}

@@ -1,3 +1,4 @@
+pub mod GivenLaws
 pub mod FramesLaws
 pub mod Packets
 pub mod HeldLaws

@@ -10,7 +10,7 @@ use Rattle.lw_payload.specs.declared.kinds.Kind.{Kind}
 use Rattle.lw_payload.specs.Views.{View, HomeView}
 use Rattle.lw_payload.specs.Calls.{IsCut, IsSameButRoom}
 use Rattle.lw_payload.specs.Lists.{AreOf}
-use Rattle.lw_payload.proofs.ListLaws.{AreOf-head}
+use Rattle.lw_core.proofs.GivenLaws.{AreOf-head}
 use Rattle.lw_payload.proofs.HomeLaws.{IsCut-then}
 use Rattle.lw_runs.specs.Kept.{Holds, FirstCanTake}
 use Rattle.lw_runs.proofs.HoldsLaws.{AreOf-holds, Holds-append, Holds-back, Holds-refl, Holds-room, Holds-swap, Holds-then}
@@ -146,17 +146,17 @@ kept_family {P} seen h p q ps of same =
     (All-tail (λ x. (seen x).family ≡ h.pools.family) p ps of.family)
 
 -- the octets that two cuts leave
-pub cut_range : (xs ys zs : List ℕ) (from to n m : ℕ) → n ≡ to → m ≡ from → from ≤ to → to ≤ length xs → ys ≡ take (length xs - (length xs - n)) xs → zs ≡ drop m ys → zs ≡ slice_range xs from to
-cut_range xs ys zs from to n m is_to is_from order within back front =
-    let all : length xs - (length xs - n) ≡ from + (to - from) = omega arith in
-    front ∙ ap (λ (k : ℕ). drop k ys) is_from ∙ ap (λ (l : List ℕ). drop from l) (back ∙ ap (λ (k : ℕ). take k xs) all) ∙ drop-take from (to - from) xs
+cut_range : (xs ys : List ℕ) (from to n : ℕ) → n ≡ length xs → from ≤ to → to ≤ length xs → ys ≡ take (length xs - (n - to)) xs → drop from ys ≡ slice_range xs from to
+cut_range xs ys from to n is order within back =
+    let all : length xs - (n - to) ≡ from + (to - from) = omega arith in
+    ap (λ (l : List ℕ). drop from l) (back ∙ ap (λ (k : ℕ). take k xs) all) ∙ drop-take from (to - from) xs
 
 -- it was cut at both ends
-pub cut_both : (h k l : HomeView) (p q r : View) (from to n m : ℕ) → n ≡ to → m ≡ from → from ≤ to → to ≤ length p.octets → IsCut h k p q (take (length p.octets - (length p.octets - n)) p.octets) → IsCut k l q r (drop m q.octets) → IsCut h l p r (slice_range p.octets from to)
-cut_both h k l p q r from to n m is_to is_from order within back front =
-    let range = cut_range p.octets q.octets (drop m q.octets) from to n m is_to is_from order within back.octets refl in
-    subst (λ (rest : List ℕ). IsCut h l p r rest) range
-    (IsCut-then h k l p q r (take (length p.octets - (length p.octets - n)) p.octets) (drop m q.octets) back front)
+pub cut_ends : (h k l : HomeView) (p q r : View) (from to n : ℕ) → n ≡ length p.octets → from ≤ to → to ≤ length p.octets
+    → IsCut h k p q (take (length p.octets - (n - to)) p.octets) → IsCut k l q r (drop from q.octets) → IsCut h l p r (slice_range p.octets from to)
+cut_ends h k l p q r from to n is order within back front =
+    subst (λ (rest : List ℕ). IsCut h l p r rest) (cut_range p.octets q.octets from to n is order within back.octets)
+    (IsCut-then h k l p q r (take (length p.octets - (n - to)) p.octets) (drop from q.octets) back front)
 
 pub cut_turns : {P : Type 0} (seen : P → View) (h k : HomeView) (p q : P) (ps : List P) (from to : ℕ) → AreOf seen h (p ∷ ps) → IsCut h k (seen p) (seen q) (slice_range (seen p).octets from to) → Turns seen h k (p ∷ ps) (q ∷ ps)
 cut_turns seen h k p q ps from to of cut =

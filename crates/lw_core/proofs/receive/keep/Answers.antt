@@ -1,6 +1,6 @@
 use Rattle.std.proofs.Common.{◌+◌, option_to_list}
 use Rattle.lw_payload.specs.Views.{HomeView}
-use Rattle.lw_payload.proofs.ListLaws.{AreOf-head}
+use Rattle.lw_core.proofs.GivenLaws.{AreOf-head}
 use Rattle.lw_reass.specs.Table.{given_in}
 use Rattle.lw_core.proofs.StackLaws.{cut_turns, fragment_given, fragment_turns, joins_cut, kept_family}
 use Rattle.lw_core.proofs.receive.keep.Goals as goal

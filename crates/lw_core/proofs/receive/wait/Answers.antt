@@ -1,5 +1,5 @@
 use Rattle.lw_arp.specs.Neighbours.{packets}
-use Rattle.lw_payload.proofs.ListLaws.{AreOf-head}
+use Rattle.lw_core.proofs.GivenLaws.{AreOf-head}
 use Rattle.lw_core.proofs.HeldLaws.{Turns-spent}
 use Rattle.lw_core.proofs.StackLaws.{hop_unknown, waits_mapped}
 use Rattle.lw_core.proofs.receive.wait.Goals as goal

@@ -1,5 +1,5 @@
 use Rattle.std.proofs.Common.{◌∷◌, ◌∙◌, sym}
-use Rattle.lw_payload.proofs.ListLaws.{AreOf-head}
+use Rattle.lw_core.proofs.GivenLaws.{AreOf-head}
 use Rattle.lw_core.specs.Held.{IsClaimed, IsRefusedRam}
 use Rattle.lw_core.specs.Stack.{held_in, stack_state, IsReady}
 use Rattle.lw_core.proofs.HeldLaws.{Turns-spent, Turns-then}

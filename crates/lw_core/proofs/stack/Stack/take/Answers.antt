@@ -1,7 +1,7 @@
 use Rattle.std.proofs.Common.{[], ◌∷◌, ◌++◌, refl, ap}
 use Rattle.lw_base.specs.declared.addresses.Net.{Net}
 use Rattle.lw_arp.specs.Neighbours.{packets}
-use Rattle.lw_payload.proofs.ListLaws.{AreOf-head}
+use Rattle.lw_core.proofs.GivenLaws.{AreOf-head}
 use Rattle.lw_core.specs.Stack.{held_in, stack_state}
 use Rattle.lw_core.proofs.HeldLaws.{AreOf-back, AreOf-front, Turns-spent, Turns-then}
 use Rattle.lw_core.proofs.StackLaws.{last_of, taught_mapped, Turns-first, Turns-last}
