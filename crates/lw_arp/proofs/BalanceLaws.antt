@@ -1,4 +1,4 @@
-use Rattle.std.proofs.Common.{◌≡◌, ◌≢◌, ℕ, ◌+◌, ◌<◌, not, cond, List, [], ◌∷◌, ◌++◌, length, get_or, set, map, filter, position, Option, Some, None, is_some, refl, ap, sym, ◌∙◌, arith, option_to_list, AllPairs}
+use Rattle.std.proofs.Common.{◌≡◌, ◌≢◌, ℕ, ◌+◌, ◌<◌, not, cond, List, [], ◌∷◌, ◌++◌, length, get_or, set, map, filter, position, Option, Some, None, is_some, refl, ap, sym, ◌∙◌, arith, option_to_list, append-nil, AllPairs}
 use Rattle.std.specs.List.{cons_option, remove, slice_get, sum_by}
 use Rattle.std.specs.Option.{option_and_then, option_map_or}
 use Rattle.std.proofs.lemmas.List.{get_or_default}
@@ -7,13 +7,10 @@ use Rattle.std.proofs.lemmas.List.Filters.{sum_by-filter_both}
 use Rattle.std.proofs.lemmas.Option.{slice_get-get_or}
 use Rattle.lw_base.specs.declared.addresses.Ip.{Ip}
 use Rattle.lw_base.specs.declared.addresses.Mac.{Mac}
-use Rattle.lw_base.specs.declared.heads.ArpPacket.{ArpPacket}
 use Rattle.lw_arp.specs.declared.entries.ArpEntry.{ArpEntry}
 use Rattle.lw_arp.specs.declared.entries.EntryState.TheVariants.{Pending, Empty}
 use Rattle.lw_arp.specs.declared.entries.Next.{Next}
-use Rattle.lw_arp.specs.declared.entries.Lesson.{Lesson}
-use Rattle.lw_arp.specs.declared.entries.Lesson.TheVariants.{Nothing, Update, Make}
-use Rattle.lw_arp.specs.Neighbours.{WeighAlike, IsTable, packets, is_of, entry_of, waiting, state_by, state_of, pending, stable, place_to_free, without, with_room, given_up, added, changed, looked_up, next_by, given_back, held, told, lesson, taught, released_by, displaced_by, learnt, released, displaced, older, is_over, aged, expired}
+use Rattle.lw_arp.specs.Neighbours.{WeighAlike, IsTable, packets, is_of, entry_of, waiting, state_by, state_of, pending, stable, place_to_free, without, with_room, given_up, added, changed, looked_up, next_by, given_back, held, told, older, is_over, aged, expired}
 use Rattle.lw_arp.proofs.ListLaws.{within_list}
 use Rattle.lw_arp.proofs.RoomLaws.{free_within}
 use Rattle.lw_arp.proofs.EntryLaws.{changed_at, changed_nowhere, waiting_at, waiting_nowhere, state_nowhere, pending_is_not_empty}
@@ -110,6 +107,14 @@ lookup_alike {P} w table ip (Some e) = elim e.mac as (λ m. held_weight w table 
 
 -- No packet is lost
 
+-- where none is given back
+pub alike_none : {P : Type 0} (ps : List P) (o : Option P) → o ≡ None → WeighAlike ps (ps ++ option_to_list o)
+alike_none ps o none = λ w. ap (λ o. sum_by w (ps ++ option_to_list o)) none ∙ ap (sum_by w) (append-nil ps)
+
+-- where no other one is given back
+pub alike_alone : {P : Type 0} (ps qs : List P) → WeighAlike ps qs → WeighAlike ps (qs ++ [])
+alike_alone ps qs alike = λ w. ap (sum_by w) (append-nil qs) ∙ alike w
+
 -- in a lookup
 pub alike_looked_up : {P : Type 0} (table new : List (ArpEntry P)) (ip : Ip) (answer : Next P) → new ≡ looked_up table ip → answer ≡ next_by (state_of table ip) (given_up table) → WeighAlike (packets table) (packets new ++ option_to_list (given_back answer))
 alike_looked_up table new ip answer now given = λ w.
@@ -136,17 +141,14 @@ update_alike {P} w table ip mac apart =
       | Some i ↦ λ some. let law = weight_changed w table ip (told mac) None apart (λ e. refl) i some in omega arith
     ] refl
 
-lesson_alike : {P : Type 0} (w : P → ℕ) (l : Lesson) (table : List (ArpEntry P)) (p : ArpPacket) → AllPairs (λ (x y : ArpEntry P). x.ip.0 ≢ y.ip.0) table → held_weight w (taught l table p) + weight w (released_by l table p) + weight w (displaced_by l table) ≡ held_weight w table
-lesson_alike w Nothing table p apart = omega arith
-lesson_alike w Update table p apart = let law = update_alike w table p.sip p.smac apart in omega arith
-lesson_alike w Make table p apart = let law = weight_added w table (stable p.sip p.smac) refl in omega arith
+pub alike_told : {P : Type 0} (table new : List (ArpEntry P)) (ip : Ip) (mac : Mac) (send : Option P) → IsTable table → new ≡ changed table ip (told mac) → send ≡ waiting table ip → WeighAlike (packets table) (packets new ++ option_to_list send)
+alike_told table new ip mac send t now out = λ w. sum_by-append w (packets new) (option_to_list send) ∙ rw (now, out) (update_alike w table ip mac t.apart)
 
--- in taking an ARP packet in
-pub alike_learnt : {P : Type 0} (table new : List (ArpEntry P)) (own : Ip) (p : ArpPacket) (send gone : Option P) → IsTable table → new ≡ learnt own table p → send ≡ released own table p → gone ≡ displaced own table p → WeighAlike (packets table) (packets new ++ option_to_list send ++ option_to_list gone)
-alike_learnt {P} table new own p send gone t now out lost = λ w.
-    let front = sum_by-append w (packets new) (option_to_list send) in
-    let all = sum_by-append w (packets new ++ option_to_list send) (option_to_list gone) in
-    all ∙ ap (λ n. n + weight w gone) front ∙ rw (now, out, lost) (lesson_alike w (lesson own table p) table p t.apart)
+-- in making an entry
+pub alike_made : {P : Type 0} (table new : List (ArpEntry P)) (ip : Ip) (mac : Mac) (gone : Option P) → new ≡ added table (stable ip mac) → gone ≡ given_up table → WeighAlike (packets table) (packets new ++ [] ++ option_to_list gone)
+alike_made table new ip mac gone now lost = λ w.
+    let law = weight_added w table (stable ip mac) refl in
+    ap (λ ps. sum_by w (ps ++ option_to_list gone)) (append-nil (packets new)) ∙ sum_by-append w (packets new) (option_to_list gone) ∙ rw (now, lost) (law)
 
 -- and in a tick
 pub alike_aged : {P : Type 0} (table new : List (ArpEntry P)) (gone_old gone : List P) → new ≡ aged table → gone ≡ gone_old ++ expired table → WeighAlike (packets table ++ gone_old) (packets new ++ gone)

@@ -1,11 +1,9 @@
 -- What a lookup leaves of the address that was looked up.
-use Rattle.std.proofs.Common.{◌≡◌, ℕ, zero, suc, if◌then◌else◌, ◌++◌, Bool, true, false, cond, eqb, eq-eqb, is_some, List, [], ◌∷◌, take, drop, Option, Some, None, refl, ap, sym, ◌∙◌, option_and_then}
+use Rattle.std.proofs.Common.{◌≡◌, ℕ, zero, suc, if◌then◌else◌, ◌++◌, Bool, true, false, cond, eq-eqb, is_some, List, [], ◌∷◌, take, drop, Option, Some, None, refl, ap, ◌∙◌, option_and_then}
 use Rattle.std.specs.List.{find}
 use Rattle.std.specs.Option.{option_map_or}
 use Rattle.lw_base.specs.declared.addresses.Ip.{Ip}
-use Rattle.lw_base.specs.declared.addresses.Mac.{Mac}
 use Rattle.lw_arp.specs.declared.entries.ArpEntry.{ArpEntry}
-use Rattle.lw_arp.specs.declared.entries.EntryState.{EntryState}
 use Rattle.lw_arp.specs.declared.entries.EntryState.TheVariants.{Pending, Empty}
 use Rattle.lw_arp.specs.Neighbours.{added, entry_of, is_of, looked_up, mac_of, pending, place_to_free, state_by, state_of, with_room, without}
 

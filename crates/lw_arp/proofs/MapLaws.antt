@@ -4,12 +4,13 @@ use Rattle.std.specs.Option.{option_map, option_map_or, option_and_then}
 use Rattle.std.proofs.lemmas.List.{take-map, drop-map, map-append, length-map}
 use Rattle.std.proofs.lemmas.Option.{slice_get-map}
 use Rattle.lw_base.specs.declared.addresses.Ip.{Ip}
+use Rattle.lw_base.specs.declared.addresses.Mac.{Mac}
 use Rattle.lw_base.specs.declared.heads.ArpPacket.{ArpPacket}
 use Rattle.lw_arp.specs.declared.entries.ArpEntry.{ArpEntry}
 use Rattle.lw_arp.specs.declared.entries.EntryState.TheVariants.{Empty}
 use Rattle.lw_arp.specs.declared.entries.Lesson.{Lesson}
 use Rattle.lw_arp.specs.declared.entries.Lesson.TheVariants.{Nothing, Update, Make}
-use Rattle.lw_arp.specs.Neighbours.{map_entry, map_entries, is_of, goes_sooner, entry_of, mac_of, waiting, packets, state_by, state_of, oldest_place, place_to_free, without, with_room, given_up, added, changed, pending, looked_up, held, lesson, told, stable, taught, released_by, displaced_by, learnt, released, displaced, older, is_over, asks_again, aged, asked_again, expired}
+use Rattle.lw_arp.specs.Neighbours.{keys_of, map_entry, map_entries, is_of, goes_sooner, entry_of, mac_of, waiting, packets, state_by, state_of, oldest_place, place_to_free, without, with_room, given_up, added, changed, pending, looked_up, held, lesson, told, stable, taught, let_out, displaced_by, is_answered, learn_plan, learnt, released, displaced, older, is_over, asks_again, aged, asked_again, expired}
 
 -- Of lists
 
@@ -83,6 +84,15 @@ packets-map_entries {P} {Q} f (x ∷ xs) = elim x.packet as (λ o. cons_option (
   | Some p ↦ ap (λ l. f p ∷ l) (packets-map_entries f xs)
 ]
 
+-- what is known of addresses doesn't go by the packets
+no_packet_mapped : {P Q : Type 0} (f : P → Q) (o : Option P) → option_map (λ _. tt {0}) (option_map f o) ≡ option_map (λ _. tt {0}) o
+no_packet_mapped f None = refl
+no_packet_mapped f (Some p) = refl
+
+pub keys-map_entries : {P Q : Type 0} (f : P → Q) (table : List (ArpEntry P)) → keys_of (map_entries f table) ≡ keys_of table
+keys-map_entries f [] = refl
+keys-map_entries f (e ∷ es) = rw (no_packet_mapped f e.packet, keys-map_entries f es) refl
+
 -- Of making room
 
 oldest_place-map_entries : {P Q : Type 0} (f : P → Q) (table : List (ArpEntry P)) → oldest_place (map_entries f table) ≡ oldest_place table
@@ -148,28 +158,32 @@ pub lesson-map_entries : {P Q : Type 0} (f : P → Q) (own : Ip) (table : List (
 lesson-map_entries f own table p =
     ap (λ b. cond (eqb p.sip.0 own.0) Nothing (cond b Update (cond (eqb p.tip.0 own.0 && not (eqb p.sip.0 0)) Make Nothing))) (is_known-map_entries f table p.sip)
 
-taught-map_entries : {P Q : Type 0} (f : P → Q) (l : Lesson) (table : List (ArpEntry P)) (p : ArpPacket) → taught l (map_entries f table) p ≡ map_entries f (taught l table p)
-taught-map_entries f Nothing table p = refl
-taught-map_entries f Update table p = changed-map_entries f table p.sip (told p.smac) (told p.smac) (λ e. refl)
-taught-map_entries f Make table p = added-map_entries f table (stable p.sip p.smac)
+pub taught-map_entries : {P Q : Type 0} (f : P → Q) (l : Lesson) (table : List (ArpEntry P)) (ip : Ip) (mac : Mac) → taught l (map_entries f table) ip mac ≡ map_entries f (taught l table ip mac)
+taught-map_entries f Nothing table ip mac = refl
+taught-map_entries f Update table ip mac = changed-map_entries f table ip (told mac) (told mac) (λ e. refl)
+taught-map_entries f Make table ip mac = added-map_entries f table (stable ip mac)
 
-pub learnt-map_entries : {P Q : Type 0} (f : P → Q) (own : Ip) (table : List (ArpEntry P)) (p : ArpPacket) → learnt own (map_entries f table) p ≡ map_entries f (learnt own table p)
-learnt-map_entries f own table p =
-    ap (λ l. taught l (map_entries f table) p) (lesson-map_entries f own table p) ∙ taught-map_entries f (lesson own table p) table p
-
-released_by-map_entries : {P Q : Type 0} (f : P → Q) (l : Lesson) (table : List (ArpEntry P)) (p : ArpPacket) → released_by l (map_entries f table) p ≡ option_map f (released_by l table p)
-released_by-map_entries f Nothing table p = refl
-released_by-map_entries f Update table p = waiting-map_entries f table p.sip
-released_by-map_entries f Make table p = refl
+pub let_out-map_entries : {P Q : Type 0} (f : P → Q) (l : Lesson) (table : List (ArpEntry P)) (ip : Ip) → let_out l (map_entries f table) ip ≡ option_map f (let_out l table ip)
+let_out-map_entries f Nothing table ip = refl
+let_out-map_entries f Update table ip = waiting-map_entries f table ip
+let_out-map_entries f Make table ip = refl
 
 displaced_by-map_entries : {P Q : Type 0} (f : P → Q) (l : Lesson) (table : List (ArpEntry P)) → displaced_by l (map_entries f table) ≡ option_map f (displaced_by l table)
 displaced_by-map_entries f Nothing table = refl
 displaced_by-map_entries f Update table = refl
 displaced_by-map_entries f Make table = given_up-map_entries f table
 
+pub learn_plan-map_entries : {P Q : Type 0} (f : P → Q) (own : Ip) (table : List (ArpEntry P)) (p : ArpPacket) → learn_plan own (map_entries f table) p ≡ learn_plan own table p
+learn_plan-map_entries f own table p =
+    ap (λ l. record { lesson = l; answer = is_answered own p; ip = p.sip; mac = p.smac }) (lesson-map_entries f own table p)
+
+pub learnt-map_entries : {P Q : Type 0} (f : P → Q) (own : Ip) (table : List (ArpEntry P)) (p : ArpPacket) → learnt own (map_entries f table) p ≡ map_entries f (learnt own table p)
+learnt-map_entries f own table p =
+    ap (λ l. taught l (map_entries f table) p.sip p.smac) (lesson-map_entries f own table p) ∙ taught-map_entries f (lesson own table p) table p.sip p.smac
+
 pub released-map_entries : {P Q : Type 0} (f : P → Q) (own : Ip) (table : List (ArpEntry P)) (p : ArpPacket) → released own (map_entries f table) p ≡ option_map f (released own table p)
 released-map_entries f own table p =
-    ap (λ l. released_by l (map_entries f table) p) (lesson-map_entries f own table p) ∙ released_by-map_entries f (lesson own table p) table p
+    ap (λ l. let_out l (map_entries f table) p.sip) (lesson-map_entries f own table p) ∙ let_out-map_entries f (lesson own table p) table p.sip
 
 pub displaced-map_entries : {P Q : Type 0} (f : P → Q) (own : Ip) (table : List (ArpEntry P)) (p : ArpPacket) → displaced own (map_entries f table) p ≡ option_map f (displaced own table p)
 displaced-map_entries f own table p =

@@ -10,13 +10,12 @@ use Rattle.std.proofs.lemmas.List.Kept.{AllPairs-filter}
 use Rattle.std.proofs.lemmas.List.Quantifiers.{all_pairs_push, all_pairs_remove}
 use Rattle.std.proofs.lemmas.List.Sums.{length-filter, count_by-le-length}
 use Rattle.lw_base.specs.declared.addresses.Ip.{Ip}
-use Rattle.lw_base.specs.declared.heads.ArpPacket.{ArpPacket}
+use Rattle.lw_base.specs.declared.addresses.Mac.{Mac}
 use Rattle.lw_arp.specs.declared.entries.ArpEntry.{ArpEntry}
 use Rattle.lw_arp.specs.declared.entries.EntryState.TheVariants.{Pending, Empty}
-use Rattle.lw_arp.specs.declared.entries.Lesson.TheVariants.{Make}
-use Rattle.lw_arp.specs.Neighbours.{IsTable, pending, stable, state_by, state_of, lesson, is_of, is_stable, lifetime, entry_of, place_to_free, without, added, older, is_over, aged}
+use Rattle.lw_arp.specs.Neighbours.{IsTable, pending, stable, state_by, state_of, is_of, is_stable, lifetime, entry_of, key_of, keys_of, place_to_free, without, added, older, is_over, aged}
 use Rattle.lw_arp.proofs.ListLaws.{All-remove, all_fail, not_found}
-use Rattle.lw_arp.proofs.EntryLaws.{unknown_when_empty, unknown_when_made, pending_is_not_stable}
+use Rattle.lw_arp.proofs.EntryLaws.{unknown_when_empty, pending_is_not_stable}
 use Rattle.lw_arp.proofs.RoomLaws.{has_room, free_within}
 
 abbrev Young : {P : Type 0} → ArpEntry P → Type 0
@@ -94,16 +93,16 @@ IsTable-added {P} table y unknown t young idle =
           IsTable-push (remove table i) y shorter (All-remove (λ (e : ArpEntry P). e.ip.0 ≢ y.ip.0) table i apart) (IsTable-remove table i within t) young idle
     ] refl
 
--- a lookup of an unknown address, and a packet that makes an entry, leave a table
+-- a lookup of an unknown address, and an entry that is made for one, leave a table
 pub IsTable-looked_up : {P : Type 0} (table new : List (ArpEntry P)) (ip : Ip) (y : ArpEntry P) → state_of table ip ≡ Empty → y ≡ pending ip → new ≡ added table y → IsTable table → IsTable new
 IsTable-looked_up {P} table new ip y empty made now t =
     let young : 0 < 20 = omega arith in
     rw (now, made) (IsTable-added table (pending ip) (unknown_when_empty (entry_of table ip) empty) t young (λ _. refl))
 
-pub IsTable-learnt : {P : Type 0} (table new : List (ArpEntry P)) (own : Ip) (p : ArpPacket) (y : ArpEntry P) → lesson own table p ≡ Make → y ≡ stable p.sip p.smac → new ≡ added table y → IsTable table → IsTable new
-IsTable-learnt {P} table new own p y make made now t =
+pub IsTable-made : {P : Type 0} (table new : List (ArpEntry P)) (ip : Ip) (mac : Mac) (y : ArpEntry P) → entry_of table ip ≡ None → y ≡ stable ip mac → new ≡ added table y → IsTable table → IsTable new
+IsTable-made {P} table new ip mac y unknown made now t =
     let young : 0 < 1200 = omega arith in
-    rw (now, made) (IsTable-added table (stable p.sip p.smac) (unknown_when_made own table p make) t young (λ _. refl))
+    rw (now, made) (IsTable-added table (stable ip mac) unknown t young (λ _. refl))
 
 -- a packet that waits at a pending entry leaves a table
 pub IsTable-held : {P : Type 0} (table : List (ArpEntry P)) (i : ℕ) (x : ArpEntry P) (packet : Option P) → i < length table → x ≡ get_or table i x → state_by x.mac ≡ Pending → IsTable table → IsTable (set table i (record x { packet = packet }))
@@ -124,4 +123,24 @@ IsTable-aged {P} table t =
       apart = AllPairs-filter Differ lives old (apart_alike table old (length-map table older) (λ k d below. ap (λ (e : ArpEntry P). e.ip.0) (get_or-map older table k d d below)) t.apart);
       young = All-weaker (λ e. lives e ≡ true) Young (λ e alive. still_young e alive) (filter lives old) (filter_passes lives old);
       idle = All-filter lives Idle old (All-map Idle older table t.idle);
+    }
+
+idle_key : {P : Type 0} (e : ArpEntry P) → (is_stable e ≡ true → e.packet ≡ None) → is_stable (key_of e) ≡ true → (key_of e).packet ≡ None
+idle_key e idle stable = rw (idle stable) refl
+
+-- a table without its packets is a table
+pub IsTable-keys : {P : Type 0} (table : List (ArpEntry P)) → IsTable table → IsTable (keys_of table)
+IsTable-keys {P} table t =
+    let unit = Unit {0} in
+    record {
+      few = let few = t.few in omega (arith, length-map table (key_of {P = P}));
+      apart = λ i j d before within same.
+          let e : ArpEntry P = record { ip = d.ip; mac = d.mac; age = d.age; packet = None } in
+          let long = length-map table (key_of {P = P}) in
+          let in_table : j < length table = omega arith in
+          let first = ap (λ (k : ArpEntry unit). k.ip.0) (get_or-map key_of table i e d (omega arith)) in
+          let second = ap (λ (k : ArpEntry unit). k.ip.0) (get_or-map key_of table j e d in_table) in
+          t.apart i j e before in_table (sym first ∙ same ∙ second);
+      young = All-map (Young {P = unit}) key_of table t.young;
+      idle = All-map (Idle {P = unit}) key_of table (All-weaker Idle (λ e. Idle (key_of e)) idle_key table t.idle);
     }

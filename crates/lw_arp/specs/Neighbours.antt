@@ -7,6 +7,7 @@ use Rattle.lw_base.specs.declared.heads.ArpPacket.{ArpPacket}
 use Rattle.lw_arp.specs.declared.entries.ArpEntry.{ArpEntry}
 use Rattle.lw_arp.specs.declared.entries.EntryState.{EntryState}
 use Rattle.lw_arp.specs.declared.entries.EntryState.TheVariants.{Stable, Pending, Empty}
+use Rattle.lw_arp.specs.declared.entries.LearnPlan.{LearnPlan}
 use Rattle.lw_arp.specs.declared.entries.Next.{Next}
 use Rattle.lw_arp.specs.declared.entries.Next.TheVariants.{Known, Ask, Wait}
 use Rattle.lw_arp.specs.declared.entries.Lesson.{Lesson}
@@ -74,6 +75,14 @@ map_entry f e = record { ip = e.ip; mac = e.mac; age = e.age; packet = option_ma
 -- a table in which each packet is replaced by what f gives of it
 abbrev pub map_entries : {P Q : Type 0} → (P → Q) → List (ArpEntry P) → List (ArpEntry Q)
 map_entries f table = map (map_entry f) table
+
+-- an entry without the packet that waits: only whether one does
+abbrev pub key_of : {P : Type 0} → ArpEntry P → ArpEntry (Unit {0})
+key_of e = map_entry (λ _. tt) e
+
+-- what a table knows of addresses, without the packets that wait
+abbrev pub keys_of : {P : Type 0} → List (ArpEntry P) → List (ArpEntry (Unit {0}))
+keys_of table = map_entries (λ _. tt) table
 
 -- what is true of every table: it is short, no two entries have one address, none has outlived its time, and packets
 -- wait at pending entries alone
@@ -157,17 +166,25 @@ lesson own table p =
 abbrev pub told : {P : Type 0} → Mac → ArpEntry P → ArpEntry P
 told mac e = record e { mac = Some mac; age = 0; packet = None }
 
--- the table after a lesson
-abbrev pub taught : {P : Type 0} → Lesson → List (ArpEntry P) → ArpPacket → List (ArpEntry P)
-taught Nothing table p = table
-taught Update table p = changed table p.sip (told p.smac)
-taught Make table p = added table (stable p.sip p.smac)
+-- a packet that is answered: a request for the own address from another one
+abbrev pub is_answered : Ip → ArpPacket → Bool
+is_answered own p = not (p.sip.0 == own.0) && ((p.tip.0 == own.0) && (p.op == 1))
+
+-- what a packet is to a table, whether it is answered, and its sender's addresses
+abbrev pub learn_plan : {P : Type 0} → Ip → List (ArpEntry P) → ArpPacket → LearnPlan
+learn_plan own table p = record { lesson = lesson own table p; answer = is_answered own p; ip = p.sip; mac = p.smac }
+
+-- the table after a lesson on these addresses
+abbrev pub taught : {P : Type 0} → Lesson → List (ArpEntry P) → Ip → Mac → List (ArpEntry P)
+taught Nothing table ip mac = table
+taught Update table ip mac = changed table ip (told mac)
+taught Make table ip mac = added table (stable ip mac)
 
 -- the packet that goes out after a lesson: the one that waited for the sender
-abbrev pub released_by : {P : Type 0} → Lesson → List (ArpEntry P) → ArpPacket → Option P
-released_by Nothing table p = None
-released_by Update table p = waiting table p.sip
-released_by Make table p = None
+abbrev pub let_out : {P : Type 0} → Lesson → List (ArpEntry P) → Ip → Option P
+let_out Nothing table ip = None
+let_out Update table ip = waiting table ip
+let_out Make table ip = None
 
 -- the packet that is lost by a lesson: the one at the entry that made room
 abbrev pub displaced_by : {P : Type 0} → Lesson → List (ArpEntry P) → Option P
@@ -175,21 +192,24 @@ displaced_by Nothing table = None
 displaced_by Update table = None
 displaced_by Make table = given_up table
 
+-- the table after a plan, and the packet that goes out by it
+abbrev pub taught_by : {P : Type 0} → LearnPlan → List (ArpEntry P) → List (ArpEntry P)
+taught_by plan table = taught plan.lesson table plan.ip plan.mac
+
+abbrev pub sent_by : {P : Type 0} → LearnPlan → List (ArpEntry P) → Option P
+sent_by plan table = let_out plan.lesson table plan.ip
+
 -- what a packet teaches: the table after it
 abbrev pub learnt : {P : Type 0} → Ip → List (ArpEntry P) → ArpPacket → List (ArpEntry P)
-learnt own table p = taught (lesson own table p) table p
+learnt own table p = taught_by (learn_plan own table p) table
 
 -- the waiting packet that goes out after a packet
 abbrev pub released : {P : Type 0} → Ip → List (ArpEntry P) → ArpPacket → Option P
-released own table p = released_by (lesson own table p) table p
+released own table p = sent_by (learn_plan own table p) table
 
 -- the waiting packet that is lost by a packet
 abbrev pub displaced : {P : Type 0} → Ip → List (ArpEntry P) → ArpPacket → Option P
 displaced own table p = displaced_by (lesson own table p) table
-
--- a packet that is answered: a request for the own address from another one
-abbrev pub is_answered : Ip → ArpPacket → Bool
-is_answered own p = not (p.sip.0 == own.0) && ((p.tip.0 == own.0) && (p.op == 1))
 
 -- A tick
 

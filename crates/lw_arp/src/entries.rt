@@ -1,5 +1,5 @@
 ghost use Rattle.std.specs.Prelude.{◌≡◌};
-ghost use Rattle.lw_arp.specs.Neighbours.{pending, stable, state_by};
+ghost use Rattle.lw_arp.specs.Neighbours.{key_of, pending, stable, state_by};
 
 use lw_base::{Ip, Mac};
 
@@ -22,6 +22,18 @@ pub(crate) fn pending<P>(ip: Ip) -> ArpEntry<P>
         mac: None,
         age: 0,
         packet: None,
+    }
+}
+
+/// An entry without the packet that waits: only whether one does.
+pub(crate) fn key<P>(entry: &ArpEntry<P>) -> ArpEntry<()>
+    ensures { result ≡ key_of entry.now }
+{
+    ArpEntry {
+        ip: entry.ip,
+        mac: entry.mac,
+        age: entry.age,
+        packet: entry.packet.as_ref().map(|_| ()),
     }
 }
 
@@ -72,11 +84,12 @@ pub enum Lesson {
     Make,
 }
 
-/// What came of an ARP packet: whether it is to be answered, the packet that waited for its sender
-/// and goes out now, and the packet of an entry that made room.
-#[derive(Debug, Drop, PartialEq, Eq)]
-pub struct Learnt<P> {
+/// What an ARP packet brings, by the table as it is: its lesson, whether it is to be answered, and the
+/// addresses of its sender.
+#[derive(Clone, Copy, Debug, PartialEq, Eq)]
+pub struct LearnPlan {
+    pub lesson: Lesson,
     pub answer: bool,
-    pub send: Option<P>,
-    pub gone: Option<P>,
+    pub ip: Ip,
+    pub mac: Mac,
 }

@@ -8,5 +8,5 @@ mod table;
 mod tests;
 mod ticks;
 
-pub use entries::{ArpEntry, EntryState, Learnt, Lesson, Next};
+pub use entries::{ArpEntry, EntryState, LearnPlan, Lesson, Next};
 pub use table::{ArpTable, ENTRIES, NoMemory, is_answered};

@@ -1,10 +1,10 @@
 ghost use Rattle.std.specs.Prelude.{◌≡◌, ◌≤◌, ◌<◌, ◌+◌, ◌++◌, [], ◌∷◌, IfOk, option_to_list, length, vec_capacity, option_copied};
-ghost use Rattle.lw_arp.specs.Neighbours.{mac_of, waiting, state_of, entry_of, IsTable, given_up, looked_up, next_by, held, told, given_back, WeighAlike, changed, lesson, learnt, released, displaced, is_answered, aged, asked_again, expired, packets};
+ghost use Rattle.lw_arp.specs.Neighbours.{mac_of, waiting, state_of, entry_of, IsTable, given_up, looked_up, next_by, held, told, given_back, WeighAlike, changed, keys_of, lesson, learn_plan, taught_by, sent_by, displaced_by, is_answered, aged, asked_again, expired, packets};
 
-use crate::entries::{Lesson, pending, stable, state_by};
+use crate::entries::{LearnPlan, Lesson, key, pending, stable, state_by};
 use crate::places::{add, entry_of, place_of, take_packet};
 use crate::ticks::{put, tick};
-use crate::{ArpEntry, EntryState, Learnt, Next};
+use crate::{ArpEntry, EntryState, Next};
 use lw_base::{ArpPacket, Ip, Mac};
 pub use std::alloc::AllocError as NoMemory;
 use std::alloc::Global;
@@ -63,16 +63,6 @@ impl<P> ArpTable<P> {
         entry_of(&self.entries, ip)?.packet.as_ref()
     }
 
-    /// The packet that an ARP packet would let out, as `input` does in `send`.
-    pub fn released(&self, a: &ArpPacket, own: Ip) -> Option<&P>
-        ensures { option_copied result ≡ released own self.now a.now }
-    {
-        match self.lesson(a, own) {
-            Lesson::Update => self.waiting(a.sip),
-            Lesson::Nothing | Lesson::Make => None,
-        }
-    }
-
     /// What the table has of an address. A lookup answers Known where that is Stable, Wait where it is
     /// Pending, and Ask where it is Empty.
     pub fn state_of(&self, ip: Ip) -> EntryState
@@ -111,33 +101,41 @@ impl<P> ArpTable<P> {
         self.entries[place].packet.replace(packet)
     }
 
-    /// Takes an ARP packet in; `own` is the stack's address.
-    pub fn input(&mut self, a: &ArpPacket, own: Ip) -> Learnt<P>
-        ensures table { self.new ≡ learnt own self.old a.now }
-        ensures answer { result.answer ≡ is_answered own a.now }
-        ensures send { result.send ≡ released own self.old a.now }
-        ensures gone { result.gone ≡ displaced own self.old a.now }
-        ensures kept { WeighAlike (packets self.old)
-            (packets self.new ++ option_to_list result.send ++ option_to_list result.gone) }
+    /// What an ARP packet brings; `own` is the stack's address. `apply` carries it out.
+    pub fn plan_learn(&self, a: &ArpPacket, own: Ip) -> LearnPlan
+        ensures { result ≡ learn_plan own self.now a.now }
     {
-        let answer = is_answered(a, own);
-        match self.lesson(a, own) {
-            Lesson::Nothing => Learnt {
-                answer,
-                send: None,
-                gone: None,
-            },
-            Lesson::Update => Learnt {
-                answer,
-                send: self.update(a.sip, a.smac),
-                gone: None,
-            },
-            Lesson::Make => Learnt {
-                answer,
-                send: None,
-                gone: add(&mut self.entries, stable(a.sip, a.smac)),
-            },
+        LearnPlan {
+            lesson: self.lesson(a, own),
+            answer: is_answered(a, own),
+            ip: a.sip,
+            mac: a.smac,
         }
+    }
+
+    /// Learns what an ARP packet brought: gives the packet that waited for its sender, which goes out
+    /// now, and the packet of an entry that made room.
+    pub fn apply(&mut self, plan: &LearnPlan) -> (Option<P>, Option<P>)
+        requires { plan.now.lesson ≡ Lesson.Make → entry_of self.old plan.now.ip ≡ None }
+        ensures table { self.new ≡ taught_by plan.now self.old }
+        ensures send { result.0 ≡ sent_by plan.now self.old }
+        ensures gone { result.1 ≡ displaced_by plan.now.lesson self.old }
+        ensures kept { WeighAlike (packets self.old) (packets self.new ++ option_to_list result.0 ++ option_to_list result.1) }
+    {
+        match plan.lesson {
+            Lesson::Nothing => (None, None),
+            Lesson::Update => (self.update(plan.ip, plan.mac), None),
+            Lesson::Make => (None, add(&mut self.entries, stable(plan.ip, plan.mac))),
+        }
+    }
+
+    /// The table's copy without its packets, in which a plan can look addresses up.
+    pub fn keys(&self, alloc: Global) -> Result<ArpTable<()>, NoMemory>
+        ensures { IfOk result (λ keys. keys ≡ keys_of self.now) }
+    {
+        Ok(ArpTable {
+            entries: keys(alloc, &self.entries)?,
+        })
     }
 
     /// Lets a tick pass. Appends the addresses to ask for again and the packets of the entries that are
@@ -155,17 +153,12 @@ impl<P> ArpTable<P> {
         tick(&mut self.entries, asks, gone);
     }
 
-    /// Gives the table up, and appends all packets that wait.
-    pub fn finish(self, gone: &mut Vec<P>)
-        requires { length gone.old.items + 10 ≤ vec_capacity gone.old }
-        ensures packets { gone.new.items ≡ gone.old.items ++ packets self }
-        ensures room { vec_capacity gone.old ≤ vec_capacity gone.new }
+    /// The entries of a table that is given up, in the order of their making.
+    pub fn into_vec(self) -> Vec<ArpEntry<P>>
+        ensures { result.items ≡ self }
     {
-        let ArpTable { mut entries } = self;
-        while !entries.is_empty() {
-            put(take_packet(&mut entries, 0), gone);
-        }
-        entries.destroy_empty();
+        let ArpTable { entries } = self;
+        entries
     }
 
     fn lesson(&self, a: &ArpPacket, own: Ip) -> Lesson
@@ -186,6 +179,7 @@ impl<P> ArpTable<P> {
     fn update(&mut self, ip: Ip, mac: Mac) -> Option<P>
         ensures table { self.new ≡ changed self.old ip (told mac) }
         ensures send { result ≡ waiting self.old ip }
+        ensures kept { WeighAlike (packets self.old) (packets self.new ++ option_to_list result) }
     {
         let place = place_of(&self.entries, ip)?;
         let entry = &mut self.entries[place];
@@ -193,6 +187,18 @@ impl<P> ArpTable<P> {
         entry.age = 0;
         entry.packet.take()
     }
+}
+
+/// The entries without their packets, in a list with the room of a table.
+fn keys<P>(alloc: Global, entries: &[ArpEntry<P>]) -> Result<Vec<ArpEntry<()>>, NoMemory>
+    ensures items { IfOk result (λ keys. keys.items ≡ keys_of entries.now) }
+    ensures room { IfOk result (λ keys. 10 ≤ vec_capacity keys) }
+{
+    let mut keys = Vec::with_capacity(alloc, ENTRIES)?;
+    for entry in entries {
+        keys.push(key(entry))?;
+    }
+    Ok(keys)
 }
 
 /// Whether a packet is to be answered by the stack with the address `own`.

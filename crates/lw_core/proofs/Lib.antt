@@ -1,5 +1,8 @@
-pub mod GivenLaws
-pub mod FramesLaws
-pub mod Packets
-pub mod HeldLaws
-pub mod StackLaws
+mod AnswerLaws
+mod CutLaws
+mod FrameLaws
+mod KeepLaws
+mod MoveLaws
+mod PlanLaws
+mod SoundLaws
+mod WaitLaws

@@ -1,50 +1,35 @@
--- The payloads that a stack holds, and how they move to and from their Home.
-use Rattle.std.specs.Prelude.{◌≡◌, ℕ, ◌+◌, ◌^◌, ◌<◌, List, [], ◌∷◌, length, IsSome, IsTrue}
+-- The payloads that a stack holds, and the RAM that a frame takes.
+use Rattle.std.specs.Prelude.{◌≡◌, ℕ, ◌+◌, ◌^◌, ◌<◌, List, [], ◌∷◌, ◌++◌, All, flat_map, length, map, IsSome, IsTrue}
+use Rattle.std.specs.List.{AllZip}
 use Rattle.lw_payload.specs.declared.kinds.Kind.{Kind}
 use Rattle.lw_payload.specs.Views.{Slot, View, HomeView, IsShort, IsTooLong}
-use Rattle.lw_payload.specs.Calls.{IsSameButRoom}
-use Rattle.lw_payload.specs.Lists.{AreOf, rows_of, weight_of}
-use Rattle.lw_runs.specs.Kept.{Holds}
-use Rattle.lw_core.specs.declared.event.Event.{Event}
-use Rattle.lw_core.specs.declared.event.Event.TheVariants.{Frame, Stop}
+use Rattle.lw_runs.specs.Kept.{AreSameButRoom, Stand}
+use Rattle.lw_arp.specs.Neighbours.{packets}
 use Rattle.lw_core.specs.State.{State}
 
--- what contracts see of a stack: its state, and the payloads that it holds, in which the octets of its state stand:
--- the packets that wait at ARP, and the kept fragments
+-- what contracts see of a stack: its state, and the payloads that it holds: the packets that wait, and those that are kept of
+-- each datagram
 pub record CoreSeen (P : Type 0) : Type 0 where
   pub state : State
-  pub held : List P
+  pub waiting : List P
+  pub kept : List (List P)
 
--- an event with the octets of its payload
-abbrev pub text_of : {P : Type 0} → (P → View) → Event P → Event (List ℕ)
-text_of seen (Frame p) = Frame (seen p).octets
-text_of seen Stop = Stop
+-- all payloads that a stack holds
+abbrev pub held_by : {P : Type 0} → CoreSeen P → List P
+held_by c = c.waiting ++ flat_map (λ ps. ps) c.kept
 
--- the payload of an event, if it has one
-abbrev pub payloads_in : {P : Type 0} → Event P → List P
-payloads_in (Frame p) = p ∷ []
-payloads_in Stop = []
-
--- an event whose payload has only other room
-abbrev pub IsSameEvent : {P : Type 0} → (P → View) → Event P → Event P → Type 0
-IsSameEvent seen (Frame p) (Frame q) = IsSameButRoom (seen p) (seen q)
-IsSameEvent seen (Frame p) Stop = ⊥
-IsSameEvent seen Stop (Frame q) = ⊥
-IsSameEvent seen Stop Stop = Unit {0}
+-- the payloads are those of the state: the packets that wait have the octets that wait in it, the fragments that are kept stand
+-- in its datagrams, and none is empty
+pub record IsTied {P : Type 0} (seen : P → View) (c : CoreSeen P) : Type 0 where
+  pub waiting : packets c.state.link.neighbours ≡ map (λ p. (seen p).octets) c.waiting
+  pub some : All (λ p. 0 < length (seen p).octets) c.waiting
+  pub kept : AllZip (λ d ps. Stand seen d.octets ps) c.state.fragments c.kept
 
 -- a stack in the same state, whose payloads have only other room
 pub record IsSameCore {P : Type 0} (seen : P → View) (before after : CoreSeen P) : Type 0 where
   pub state : after.state ≡ before.state
-  pub held : Holds seen before.held after.held
-
--- Payloads `before` became `after`, while their Home h became k: the rows and the weight that were given up went to the Home, and those
--- that were made came out of it; nothing else of the Home changed, and `after` may be given to it
-pub record Turns {P : Type 0} (seen : P → View) (h k : HomeView) (before after : List P) : Type 0 where
-  pub rows : (s : Slot) → k.rows s + rows_of seen before s ≡ h.rows s + rows_of seen after s
-  pub weight : k.weight + weight_of seen after ≡ h.weight + weight_of seen before
-  pub pools : k.pools ≡ h.pools
-  pub counts : k.counts ≡ h.counts
-  pub of_home : AreOf seen k after
+  pub waiting : after.waiting ≡ before.waiting
+  pub kept : AreSameButRoom seen (flat_map (λ ps. ps) before.kept) (flat_map (λ ps. ps) after.kept)
 
 -- a Home makes payloads of RAM, of as many octets as a packet has at most
 pub record MakesRam (h : HomeView) : Type 0 where

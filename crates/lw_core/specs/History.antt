@@ -1,28 +1,34 @@
+-- Histories of the serial stack.
 use Rattle.std.specs.Prelude.{ℕ, ◌≡◌, Bool, false, List, [], ◌∷◌}
-use Rattle.lw_core.specs.declared.event.Event.{Event}
-use Rattle.lw_core.specs.declared.event.Reply.{Reply}
-use Rattle.lw_core.specs.declared.event.Entry.{Entry}
+use Rattle.lw_events.specs.declared.event.Event.{Event}
+use Rattle.lw_events.specs.declared.event.Reply.{Reply}
+use Rattle.lw_events.specs.declared.entry.Entry.{Entry}
+use Rattle.lw_events.specs.Events.{Grants, grants_of}
 use Rattle.lw_core.specs.State.{State}
 use Rattle.lw_core.specs.Step.{step}
 
--- the entry of an event, for which RAM was short or not: its answer and frames are those of the serial step
-abbrev pub entry_of : State → ℕ → Event (List ℕ) → Bool → Entry
-entry_of s actor event short =
-    let o = step s event short in
-    record { actor = actor; event = event; short = o.short; frames = o.frames; reply = o.reply }
+-- the entry of an event that is granted this: its answer, posts and frames are those of the serial step
+abbrev pub entry_of : State → ℕ → Event (List ℕ) → Grants → Entry
+entry_of s actor event g =
+    let o = step s event g in
+    record { actor = actor; event = event; short = o.short; posts = o.posts; frames = o.frames; reply = o.reply }
 
--- one turn of the core: the entry is that of the event, and the state moves by the serial step
+-- one event of the core: the entry is that of the event, by the grants that it tells, and the state moves by the serial step
 pub record IsStep (s : State) (actor : ℕ) (event : Event (List ℕ)) (entry : Entry) (reply : Reply) (t : State) : Type 0 where
-  pub made : entry ≡ entry_of s actor event entry.short
-  pub answered : reply ≡ (step s event entry.short).reply
-  pub moved : t ≡ (step s event entry.short).state
+  pub made : entry ≡ entry_of s actor event (grants_of entry)
+  pub answered : reply ≡ (step s event (grants_of entry)).reply
+  pub moved : t ≡ (step s event (grants_of entry)).state
 
--- a replay: each entry has the answer and the frames of the serial step of the state that those before it leave
+-- a replay: each entry has the answer, the posts and the frames of the serial step of the state that those before it leave
 abbrev pub IsReplay : State → List Entry → Type 0
 IsReplay s [] = Unit {0}
-IsReplay s (e ∷ es) = (e ≡ entry_of s e.actor e.event e.short) × IsReplay (step s e.event e.short).state es
+IsReplay s (e ∷ es) = (e ≡ entry_of s e.actor e.event (grants_of e)) × IsReplay (step s e.event (grants_of e)).state es
 
--- the state that events leave for which RAM isn't short
+-- all that an event asks for is granted, and it posts nothing
+abbrev pub granted : Grants
+granted = record { short = false; places = [] }
+
+-- the state that events leave which are granted all that they ask for
 abbrev pub state_after : State → List (Event (List ℕ)) → State
 state_after s [] = s
-state_after s (event ∷ events) = state_after (step s event false).state events
+state_after s (event ∷ events) = state_after (step s event granted).state events

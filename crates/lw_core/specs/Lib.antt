@@ -1,7 +1,9 @@
 pub mod State
 pub mod Datagrams
 pub mod Arrivals
+pub mod Input
 pub mod Step
 pub mod History
 pub mod Held
-pub mod Stack
+pub mod Layers
+pub mod Laws

@@ -1,23 +1,30 @@
+-- The state of a stack: a record for each layer.
 use Rattle.std.specs.Prelude.{ℕ, Bool, false, List, []}
 use Rattle.lw_base.specs.declared.addresses.Net.{Net}
 use Rattle.lw_base.specs.declared.limits.Limits.{Limits}
-use Rattle.lw_arp.specs.declared.entries.ArpEntry.{ArpEntry}
+use Rattle.lw_link.specs.Way.{Link}
 use Rattle.lw_reass.specs.Datagrams.{Datagram}
 
--- the state of a stack: its address and limits, what is known of its neighbours, the datagrams of which
--- fragments came, the frames sent, the identification of the next datagram, how many frames came, and
--- whether the run was stopped
-pub record State : Type 0 where
-  pub net : Net
-  pub limits : Limits
-  pub neighbours : List (ArpEntry (List ℕ))
-  pub datagrams : List Datagram
-  pub sent : List (List ℕ)
-  pub next_id : ℕ
+-- the words that a stack shows: how many frames came, and whether the run was stopped
+pub record Words : Type 0 where
   pub frames : ℕ
   pub stopped : Bool
 
+-- the state of a stack: its limits; the link, with its address, what is known of its neighbours and the next identification; the
+-- datagrams of which fragments came; the frames sent; and its words
+pub record State : Type 0 where
+  pub limits : Limits
+  pub link : Link
+  pub fragments : List Datagram
+  pub sent : List (List ℕ)
+  pub words : Words
+
 -- the state in which a stack begins
 abbrev pub opening : Net → Limits → State
-opening net limits =
-    record { net = net; limits = limits; neighbours = []; datagrams = []; sent = []; next_id = 0; frames = 0; stopped = false }
+opening net limits = record {
+  limits = limits;
+  link = record { net = net; neighbours = []; next_id = 0 };
+  fragments = [];
+  sent = [];
+  words = record { frames = 0; stopped = false };
+}

@@ -1,16 +1,16 @@
-//! The core of the stack: one event at a time, its answer and the frames that it sends.
+//! The core of the stack: one event at a time, its answer, what it posts and the frames that it sends.
 #![tactic(auto)]
 
 mod arrival;
-mod event;
-mod frames;
-mod outgoing;
+mod change;
+mod claim;
+mod input;
+mod laws;
+mod layers;
+mod plan;
 mod receive;
-mod stack;
-#[cfg(test)]
-mod tests;
-mod turn;
+mod step;
 
-pub use event::{Entry, Event, EventText, Reply};
+pub use laws::{arp_request_is_answered, echo_request_is_answered};
 pub use std::alloc::AllocError as NoMemory;
-pub use turn::Core;
+pub use step::Core;

@@ -7,4 +7,4 @@ mod pieces;
 mod tests;
 
 pub use fault::SplitFault;
-pub use pieces::split;
+pub use pieces::{full_count, full_piece, last_piece, split};

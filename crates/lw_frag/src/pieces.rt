@@ -1,5 +1,5 @@
-ghost use Rattle.std.specs.Prelude.{◌≡◌, ◌+◌, ◌*◌, ◌^◌, ◌<◌, ◌≤◌, length, false, IfErr, IfOk, Err};
-ghost use Rattle.lw_frag.specs.Pieces.{full_pieces, IsWhole, MayNotPass, piece, pieces_of};
+ghost use Rattle.std.specs.Prelude.{◌≡◌, ◌+◌, ◌*◌, ◌^◌, ◌<◌, ◌≤◌, length, false, true, ◌-◌, IfErr, IfOk, Err};
+ghost use Rattle.lw_frag.specs.Pieces.{full_count, full_len, full_octets, full_pieces, IsWhole, MayNotPass, piece, pieces_of};
 ghost use Rattle.lw_frag.specs.declared.fault.SplitFault.TheVariants.{DontFragment};
 
 use crate::SplitFault;
@@ -29,6 +29,38 @@ pub fn split(
         return Err(SplitFault::DontFragment);
     }
     Ok(pieces(alloc, h, len, u32::from(mtu))?)
+}
+
+/// How many full fragments come before the last one of a packet with `len` octets of data: none where
+/// it fits. With `full_piece` and `last_piece` it gives what `split` does, and takes no memory.
+pub fn full_count(len: u32, mtu: u16) -> u32
+    requires { 28 ≤ mtu }
+    ensures { result ≡ full_count len mtu }
+{
+    let most = u32::from(mtu) - HEAD_LEN;
+    len.saturating_sub(most).div_ceil(most / 8 * 8)
+}
+
+/// Full fragment `index` of a packet, counted from 0.
+pub fn full_piece(h: &IpHead, mtu: u16, index: u32) -> (IpHead, u32, u32)
+    requires mtu { 28 ≤ mtu }
+    requires index { index < 2 ^ 16 }
+    ensures { result ≡ piece h.now (index * full_len mtu) (full_len mtu) true }
+{
+    let full = (u32::from(mtu) - HEAD_LEN) / 8 * 8;
+    piece(h, index * full, full, true)
+}
+
+/// The last fragment of a packet with `len` octets of data, and the only one where it fits.
+pub fn last_piece(h: &IpHead, len: u32, mtu: u16) -> (IpHead, u32, u32)
+    requires mtu { 28 ≤ mtu }
+    requires len { len ≤ 65535 }
+    ensures { result ≡ piece h.now (full_octets len mtu) (len - full_octets len mtu) false }
+{
+    let most = u32::from(mtu) - HEAD_LEN;
+    let full = most / 8 * 8;
+    let octets = len.saturating_sub(most).div_ceil(full) * full;
+    piece(h, octets, len - octets, false)
 }
 
 fn pieces(

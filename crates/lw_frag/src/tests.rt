@@ -1,11 +1,8 @@
-ghost use Rattle.std.specs.Prelude.{◌≤◌};
-
 use super::*;
 use lw_base::{Ip, IpHead};
-use std::alloc::Global;
 use std::test::Fail;
 
-// The header of a packet; `split` doesn't look at its total.
+// The header of a packet; its total isn't looked at.
 const HEAD: IpHead = IpHead {
     head_len: 20,
     tos: 3,
@@ -20,15 +17,6 @@ const HEAD: IpHead = IpHead {
     dst: Ip(0x0a00_0002),
 };
 
-const OCTETS: [u8; 65535] = [0; 65535];
-
-fn split_octets(alloc: Global, len: usize, mtu: u16) -> Result<Vec<(IpHead, u32, u32)>, SplitFault>
-    requires len { len ≤ 65535 }
-    requires mtu { 28 ≤ mtu }
-{
-    split(alloc, &HEAD, &OCTETS[..len], mtu)
-}
-
 // The octets of the flags and the offset (RFC 791, 3.1).
 fn flags_and_offset(head: &IpHead) -> u32 {
     let mf = if head.mf { 0x2000 } else { 0 };
@@ -37,7 +25,7 @@ fn flags_and_offset(head: &IpHead) -> u32 {
 
 #[test]
 fn an_echo_of_3008_octets_is_three_fragments(rt: HostRuntime) -> Result<(), Fail> {
-    let pieces = split_octets(rt.alloc(), 3008, 1500)?;
+    let pieces = split(rt.alloc(), &HEAD, &[0; 3008], 1500)?;
     assert_eq!(rt; pieces.len(), 3);
     for (place, total, word, from, len) in [
         (0, 1500, 0x2000, 0, 1480),
@@ -49,5 +37,8 @@ fn an_echo_of_3008_octets_is_three_fragments(rt: HostRuntime) -> Result<(), Fail
         assert_eq!(rt; flags_and_offset(head), word);
         assert_eq!(rt; (*start, *octets), (from, len));
     }
+    assert_eq!(rt; full_count(3008, 1500), 2);
+    assert_eq!(rt; full_piece(&HEAD, 1500, 1), pieces[1]);
+    assert_eq!(rt; last_piece(&HEAD, 3008, 1500), pieces[2]);
     Ok(())
 }

@@ -4,17 +4,21 @@ use Rattle.lw_base.specs.declared.heads.IcmpHead.{IcmpHead}
 use Rattle.lw_wire.specs.declared.fault.WireFault.{WireFault}
 use Rattle.lw_wire.specs.Icmp.{icmp_of, icmp_spelling}
 
--- a head of an echo request: type 8, code 0
+-- an echo request: type 8, code 0, an identifier and a sequence number in four octets, and data
+abbrev pub echo_request : ℕ → List ℕ → List ℕ
+echo_request numbers body = icmp_spelling (record { kind = 8; code = 0; rest = numbers }) body
+
+-- the answer to it: type 0, with the same identifier and sequence number and the same data
+abbrev pub echo_answer : ℕ → List ℕ → List ℕ
+echo_answer numbers body = icmp_spelling (record { kind = 0; code = 0; rest = numbers }) body
+
+-- a head of an echo request
 abbrev pub is_echo_request : IcmpHead → Bool
 is_echo_request h = h.kind == 8 && h.code == 0
 
--- the answer to a request: type 0, with the same identifier and sequence number and the same data
-abbrev pub answer_to : IcmpHead → List ℕ → List ℕ
-answer_to h body = icmp_spelling (record { kind = 0; code = 0; rest = h.rest }) body
-
 -- the answer to what was read, if it was an echo request
 abbrev pub answer_in : List ℕ → Result (IcmpHead × ℕ) WireFault → Option (List ℕ)
-answer_in octets (Ok r) = if is_echo_request r.0 then Some (answer_to r.0 (drop r.1 octets)) else None
+answer_in octets (Ok r) = if is_echo_request r.0 then Some (echo_answer r.0.rest (drop r.1 octets)) else None
 answer_in octets (Err fault) = None
 
 -- the message that answers octets, if they are an echo request

@@ -5,5 +5,5 @@ mod messages;
 #[cfg(test)]
 mod tests;
 
-pub use messages::{echo_reply, unreachable};
+pub use messages::{echo_answer, echo_reply, unreachable};
 pub use std::alloc::AllocError as NoMemory;

@@ -1,2 +1,2 @@
-pub mod Interface
+pub mod Frames
 pub mod Route

@@ -1,6 +1,8 @@
-//! The network interface of a stack: its address, and the next hop of a datagram, and the frames that were sent.
+//! The network interface of a stack: its address, the next hop of a datagram, and the frames that were sent.
 #![tactic(auto)]
 
 mod netif;
+mod sent;
 
-pub use netif::{Netif, NoMemory};
+pub use netif::Netif;
+pub use sent::Sent;

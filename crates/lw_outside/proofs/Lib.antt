@@ -1,2 +1,3 @@
 mod Walks
 mod Ties
+pub mod WriteLaws

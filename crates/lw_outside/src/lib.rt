@@ -11,6 +11,7 @@ mod sink;
 mod sink_log;
 mod standard;
 mod sure;
+mod writing;
 
 pub use files::{Failed, Files, tells};
 pub use memory::{MemFiles, MemSink};
@@ -18,3 +19,4 @@ pub use named_file::NamedFile;
 pub use sink::Sink;
 pub use standard::{StdFiles, StdSink};
 pub use sure::{SureFiles, SureSink};
+pub use writing::write_all;

@@ -4,3 +4,4 @@ pub mod Tables
 pub mod Adds
 pub mod Ages
 pub mod Rooms
+pub mod Orders

@@ -1,19 +1,18 @@
-use Rattle.std.proofs.Common.{◌≡◌, ℕ, zero, suc, ◌<◌, Bool, true, false, List, [], ◌∷◌, ◌++◌, map, length, get_or, set, take, drop, remove, Option, slice_set, refl, sym, ap, ◌∙◌, subst, arith, append_assoc}
-use Rattle.std.specs.Option.{unwrap_or}
-use Rattle.std.specs.List.{All}
+use Rattle.std.proofs.Common.{◌≡◌, ℕ, zero, suc, ◌<◌, List, [], ◌∷◌, ◌++◌, map, length, get_or, set, take, drop, remove, slice_set, refl, sym, ap, ◌∙◌, subst, arith, append_assoc}
+use Rattle.std.specs.List.{All, AllZip}
 use Rattle.std.proofs.lemmas.List.{map-append, take-map, drop-map, map-set, get_or-map}
 use Rattle.std.proofs.lemmas.List.Concat.{flat_map-append}
-use Rattle.std.proofs.lemmas.List.Elements.{All-append, All-take, All-drop, All-weaker, All-set}
+use Rattle.std.proofs.lemmas.List.Elements.{All-append, All-take, All-drop, All-set, All-head, All-tail}
 use Rattle.lw_base.specs.declared.heads.IpHead.{IpHead}
 use Rattle.lw_payload.specs.Views.{View}
 use Rattle.lw_runs.specs.Positions.{with_octets, octets_in}
-use Rattle.lw_runs.specs.Kept.{Holds}
+use Rattle.lw_runs.specs.Kept.{Holds, Stand}
 use Rattle.lw_runs.proofs.Spreads.{length-with}
 use Rattle.lw_runs.proofs.HoldsLaws.{Holds-then, Holds-front, Holds-back, Holds-swap, All-front, All-back}
-use Rattle.lw_reass.specs.Datagrams.{Datagram, Added, put_at, with_fragment, is_whole, opened, head_with}
-use Rattle.lw_reass.specs.Opens.{datagram, bodies_in, kept_at, IsOpen, the_datagram, IsWithin}
+use Rattle.lw_reass.specs.Datagrams.{Datagram, with_fragment, opened}
+use Rattle.lw_reass.specs.Opens.{datagram, bodies_in, kept_in, kept_at, IsOpen, the_datagram, IsWithin}
+use Rattle.lw_reass.specs.Table.{joined}
 use Rattle.lw_reass.specs.declared.datagram.Open.{Open}
-use Rattle.lw_reass.specs.declared.outcome.Outcome.TheVariants.{Whole, Kept}
 use Rattle.lw_reass.proofs.Wholes.{Fitting, within_with}
 
 -- the datagram at a place is that of the element there
@@ -65,13 +64,9 @@ map-remove f xs i = map-append f (take i xs) (drop (suc i) xs) ∙ rw (take-map 
 pub removed_all : {X : Type 0} (Q : X → Type 0) (xs : List X) (i : ℕ) → All Q xs → All Q (remove xs i)
 removed_all Q xs i all = All-append Q (take i xs) (drop (suc i) xs) (All-take Q i xs all) (All-drop Q (suc i) xs all)
 
--- a datagram with room for some parts has room for none
-pub less_room : {P H : Type 0} (os : List (Open P H)) (n : ℕ) → All (λ o. IsOpen o n) os → All (λ o. IsOpen o 0) os
-less_room os n all = All-weaker (λ o. IsOpen o n) (λ o. IsOpen o 0) (λ o is. record { young = is.young; short = is.short; within = is.within; place = omega arith }) os all
-
 -- it is open still after a fragment that fits
-pub open_with : {P H : Type 0} (o new : Open P H) (h : IpHead) (n : ℕ) (xs : List ℕ) → IsOpen o n → Fitting (datagram o) h (length xs) → datagram new ≡ with_fragment (datagram o) h xs → IsOpen new 0
-open_with o new h n xs is fit e =
+pub open_with : {P H : Type 0} (seen : P → View) (o new : Open P H) (h : IpHead) (xs : List ℕ) → IsOpen seen o → Fitting (datagram o) h (length xs) → datagram new ≡ with_fragment (datagram o) h xs → Stand seen new.runs.octets new.runs.bodies → IsOpen seen new
+open_with seen o new h xs is fit e stand =
     let reach = length-with o.runs.octets h.offset xs in
     let octets : new.runs.octets ≡ with_octets o.runs.octets h.offset xs = ap (λ (d : Datagram). d.octets) e in
     let age : new.age ≡ o.age = ap (λ (d : Datagram). d.age) e in
@@ -79,26 +74,14 @@ open_with o new h n xs is fit e =
       young = let y = is.young in omega arith;
       short = let s = is.short in let t = fit.short in let l = ap length octets in omega arith;
       within = subst (λ (d : Datagram). IsWithin d.end d.octets) (sym e) (within_with (datagram o) h (length xs) xs refl is.within fit);
-      place = omega arith;
+      stand = stand;
     }
 
--- what a fragment makes of the datagrams, where its datagram isn't whole, and where it is
-pub put_kept : (ds : List Datagram) (i : ℕ) (d : Datagram) (h : IpHead) → is_whole d ≡ false → put_at ds i d h ≡ record { datagrams = slice_set ds i d; outcome = Kept }
-put_kept ds i d h e = rw e refl
-
-pub put_whole : (ds : List Datagram) (i : ℕ) (d : Datagram) (h : IpHead) → is_whole d ≡ true → put_at ds i d h ≡ record { datagrams = remove ds i; outcome = Whole (unwrap_or d.head h) (octets_in d.octets) }
-put_whole ds i d h e = rw e refl
-
--- whether the datagram at a place would be whole
-pub whole_at : {P H : Type 0} (os : List (Open P H)) (i : ℕ) (o : Open P H) (h : IpHead) (xs : List ℕ) (r b : Bool) → i < length os → o ≡ get_or os i o → r ≡ is_whole (with_fragment (datagram o) h xs) → r ≡ b → is_whole (with_fragment (the_datagram os i h) h xs) ≡ b
-whole_at os i o h xs r b more is e f = ap (λ d. is_whole (with_fragment d h xs)) (datagram_at os i o h more is) ∙ sym e ∙ f
-
 -- a fragment is kept
-pub kept_datagrams : {P H : Type 0} (os : List (Open P H)) (i : ℕ) (o new : Open P H) (h : IpHead) (xs : List ℕ) → i < length os → o ≡ get_or os i o → datagram new ≡ with_fragment (datagram o) h xs → is_whole (with_fragment (the_datagram os i h) h xs) ≡ false
-    → map datagram (set os i new) ≡ (put_at (map datagram os) i (with_fragment (the_datagram os i h) h xs) h).datagrams
-kept_datagrams os i o new h xs more is e never =
+pub kept_datagrams : {P H : Type 0} (os : List (Open P H)) (i : ℕ) (o new : Open P H) (h : IpHead) (xs : List ℕ) → i < length os → o ≡ get_or os i o → datagram new ≡ with_fragment (datagram o) h xs
+    → map datagram (set os i new) ≡ slice_set (map datagram os) i (with_fragment (the_datagram os i h) h xs)
+kept_datagrams os i o new h xs more is e =
     map-set datagram os i new ∙ ap (λ d. slice_set (map datagram os) i d) (e ∙ ap (λ d. with_fragment d h xs) (sym (datagram_at os i o h more is)))
-    ∙ sym (ap (λ (a : Added). a.datagrams) (put_kept (map datagram os) i (with_fragment (the_datagram os i h) h xs) h never))
 
 pub kept_bodies : {P H : Type 0} (seen : P → View) (os : List (Open P H)) (i : ℕ) (o new : Open P H) (body : P) → i < length os → o ≡ get_or os i o → Holds seen (body ∷ o.runs.bodies) new.runs.bodies → Holds seen (body ∷ bodies_in os) (bodies_in (set os i new))
 kept_bodies {P} seen os i o new body more is holds =
@@ -106,22 +89,19 @@ kept_bodies {P} seen os i o new body more is holds =
     (subst (λ (ps : List P). Holds seen (body ∷ (bodies_in (take i os) ++ (o.runs.bodies ++ bodies_in (drop (suc i) os)))) ps) (sym (set_bodies os i new more))
     (holds_within seen body (bodies_in (take i os)) o.runs.bodies new.runs.bodies (bodies_in (drop (suc i) os)) holds))
 
-pub kept_each : {P H : Type 0} (os : List (Open P H)) (i n : ℕ) (o new : Open P H) (h : IpHead) (xs : List ℕ) → i < length os → o ≡ get_or os i o → All (λ x. IsOpen x n) os → Fitting (the_datagram os i h) h (length xs) → datagram new ≡ with_fragment (datagram o) h xs → All (λ x. IsOpen x 0) (set os i new)
-kept_each {P} {H} os i n o new h xs more is all fit e =
-    let open_there : IsOpen o n = subst (λ (x : Open P H). IsOpen x n) (sym is) (all i o more) in
+pub kept_each : {P H : Type 0} (seen : P → View) (os : List (Open P H)) (i : ℕ) (o new : Open P H) (h : IpHead) (xs : List ℕ) → i < length os → o ≡ get_or os i o → All (IsOpen seen) os → Fitting (the_datagram os i h) h (length xs) → datagram new ≡ with_fragment (datagram o) h xs → Stand seen new.runs.octets new.runs.bodies
+    → All (IsOpen seen) (set os i new)
+kept_each {P} {H} seen os i o new h xs more is all fit e stand =
+    let open_there : IsOpen seen o = subst (λ (x : Open P H). IsOpen seen x) (sym is) (all i o more) in
     let fit_there : Fitting (datagram o) h (length xs) = subst (λ (d : Datagram). Fitting d h (length xs)) (datagram_at os i o h more is) fit in
-    All-set (λ x. IsOpen x 0) os i new (open_with o new h n xs open_there fit_there e) (less_room os n all)
+    All-set (IsOpen seen) os i new (open_with seen o new h xs open_there fit_there e stand) all
 
 -- a datagram is whole
-pub whole_datagrams : {P H : Type 0} (os left : List (Open P H)) (i : ℕ) (h : IpHead) (xs : List ℕ) → left ≡ remove os i → is_whole (with_fragment (the_datagram os i h) h xs) ≡ true → map datagram left ≡ (put_at (map datagram os) i (with_fragment (the_datagram os i h) h xs) h).datagrams
-whole_datagrams os left i h xs e whole =
-    ap (λ ys. map datagram ys) e ∙ map-remove datagram os i ∙ sym (ap (λ (a : Added). a.datagrams) (put_whole (map datagram os) i (with_fragment (the_datagram os i h) h xs) h whole))
+pub whole_datagrams : {P H : Type 0} (os left : List (Open P H)) (i : ℕ) → left ≡ remove os i → map datagram left ≡ remove (map datagram os) i
+whole_datagrams os left i e = ap (λ ys. map datagram ys) e ∙ map-remove datagram os i
 
-pub whole_outcome : {P H : Type 0} (os : List (Open P H)) (i : ℕ) (o : Open P H) (h head : IpHead) (found : Option IpHead) (xs octets : List ℕ) → i < length os → o ≡ get_or os i o → is_whole (with_fragment (the_datagram os i h) h xs) ≡ true
-    → found ≡ head_with o.head h → head ≡ unwrap_or found h → octets ≡ octets_in (with_octets o.runs.octets h.offset xs) → Whole head octets ≡ (put_at (map datagram os) i (with_fragment (the_datagram os i h) h xs) h).outcome
-whole_outcome os i o h head found xs octets more is whole e f g =
-    rw (f, e, g) (sym (ap (λ (d : Datagram). Whole (unwrap_or (with_fragment d h xs).head h) (octets_in (with_fragment d h xs).octets)) (datagram_at os i o h more is)))
-    ∙ sym (ap (λ (a : Added). a.outcome) (put_whole (map datagram os) i (with_fragment (the_datagram os i h) h xs) h whole))
+pub whole_octets : {P H : Type 0} (os : List (Open P H)) (i : ℕ) (o : Open P H) (h : IpHead) (xs octets : List ℕ) → i < length os → o ≡ get_or os i o → octets ≡ octets_in (with_octets o.runs.octets h.offset xs) → octets ≡ octets_in (with_fragment (the_datagram os i h) h xs).octets
+whole_octets os i o h xs octets more is e = e ∙ sym (ap (λ (d : Datagram). octets_in (with_fragment d h xs).octets) (datagram_at os i o h more is))
 
 pub whole_bodies : {P H : Type 0} (seen : P → View) (os left : List (Open P H)) (i : ℕ) (o : Open P H) (body all : P) → i < length os → o ≡ get_or os i o → left ≡ remove os i → Holds seen (body ∷ o.runs.bodies) (all ∷ []) → Holds seen (body ∷ bodies_in os) (all ∷ bodies_in left)
 whole_bodies {P} {H} seen os left i o body all more is e holds =
@@ -132,5 +112,12 @@ whole_bodies {P} {H} seen os left i o body all more is e holds =
     Holds-then seen _ _ _ (holds_within seen body front o.runs.bodies (all ∷ []) back holds) (holds_out seen all front back) in
     subst (λ (ps : List P). Holds seen (body ∷ ps) (all ∷ bodies_in left)) (sym (split_bodies os i o more is)) (subst (λ (ps : List P). Holds seen (body ∷ (front ++ (o.runs.bodies ++ back))) (all ∷ ps)) (sym kept) there)
 
-pub whole_each : {P H : Type 0} (os left : List (Open P H)) (i n : ℕ) → left ≡ remove os i → All (λ x. IsOpen x n) os → All (λ x. IsOpen x 0) left
-whole_each {P} {H} os left i n e all = subst (λ (xs : List (Open P H)). All (λ x. IsOpen x 0) xs) (sym e) (removed_all (λ x. IsOpen x 0) os i (less_room os n all))
+-- the payloads of all datagrams are those of each, one behind another
+pub joined-kept : {P H : Type 0} (os : List (Open P H)) → joined (kept_in os) ≡ bodies_in os
+joined-kept [] = refl
+joined-kept (o ∷ os) = ap (λ ps. o.runs.bodies ++ ps) (joined-kept os)
+
+-- and those of each stand in its octets
+pub tied : {P H : Type 0} (seen : P → View) (os : List (Open P H)) → All (IsOpen seen) os → AllZip (λ d ps. Stand seen d.octets ps) (map datagram os) (kept_in os)
+tied seen [] all = tt
+tied seen (o ∷ os) all = ((All-head (IsOpen seen) o os all).stand, tied seen os (All-tail (IsOpen seen) o os all))

@@ -1,10 +1,12 @@
-use Rattle.std.specs.Prelude.{ℕ, ◌+◌, ◌%◌, ◌==◌, ◌&&◌, ◌||◌, not, Bool, true, false, List, [], ◌∷◌, ◌++◌, map, length, take, filter, remove, slice_get, slice_set, Option, Some, None, is_some, unwrap_or, nat_lt, nat_le, if◌then◌else◌}
+use Rattle.std.specs.Prelude.{ℕ, ◌+◌, ◌%◌, ◌==◌, ◌&&◌, ◌||◌, not, Bool, true, false, List, [], ◌∷◌, ◌++◌, map, length, take, filter, remove, replicate, slice_get, slice_set, Option, Some, None, is_some, unwrap_or, nat_lt, nat_le, if◌then◌else◌}
 use Rattle.std.specs.List.{list_all, position_or_len}
 use Rattle.lw_base.specs.declared.heads.IpHead.{IpHead}
 use Rattle.lw_runs.specs.Positions.{with_octets, overlaps, octets_in}
 use Rattle.lw_reass.specs.declared.datagram.Key.{Key}
 use Rattle.lw_reass.specs.declared.outcome.Why.{Why}
 use Rattle.lw_reass.specs.declared.outcome.Why.TheVariants.{BadLength, Table, Overlap}
+use Rattle.lw_reass.specs.declared.outcome.FragmentPlan.{FragmentPlan}
+use Rattle.lw_reass.specs.declared.outcome.FragmentPlan.TheVariants.{Refuse, Keep, Complete}
 use Rattle.lw_reass.specs.declared.outcome.Outcome.{Outcome}
 use Rattle.lw_reass.specs.declared.outcome.Outcome.TheVariants.{Whole, Kept, Dropped}
 
@@ -87,33 +89,57 @@ is_filled (Some e) octets = nat_le e (length octets) && list_all is_some (take e
 abbrev pub is_whole : Datagram → Bool
 is_whole d = is_filled d.end d.octets
 
--- what comes of a fragment: the datagrams that are open after it, and the outcome, where octets stand for the payload
-pub record Added : Type 0 where
-  pub datagrams : List Datagram
-  pub outcome : Outcome (List ℕ)
+-- n octets of a fragment make its datagram whole; which octets they are doesn't matter
+abbrev pub completes : Datagram → IpHead → ℕ → Bool
+completes d h n = is_whole (with_fragment d h (replicate n 0))
 
--- the datagram at a place became d by a fragment: it is given out where it is whole
-abbrev pub put_at : List Datagram → ℕ → Datagram → IpHead → Added
-put_at ds i d h =
-    if is_whole d then record { datagrams = remove ds i; outcome = Whole (unwrap_or d.head h) (octets_in d.octets) }
-    else record { datagrams = slice_set ds i d; outcome = Kept }
+-- what is to become of a fragment of n octets: it is refused for the first reason that holds, or goes into its datagram, which it may make
+-- whole, with the header of the fragment at offset 0
+abbrev pub plan_unless : Option Why → Bool → ℕ → IpHead → FragmentPlan
+plan_unless (Some why) whole i w = Refuse why
+plan_unless None whole i w = if whole then Complete i w else Keep i
+
+unfoldable pub plan_of : List Datagram → IpHead → ℕ → FragmentPlan
+plan_of ds h n =
+    plan_unless (refusal_of ds h n) (completes (datagram_of ds h) h n) (place_of ds h) (unwrap_or (head_with (datagram_of ds h).head h) h)
+
+-- the header of the whole that a plan makes
+abbrev pub whole_head : FragmentPlan → Option IpHead
+whole_head (Refuse why) = None
+whole_head (Keep i) = None
+whole_head (Complete i w) = Some w
 
 -- the datagrams with that of a fragment among them
 abbrev pub with_open : List Datagram → IpHead → List Datagram
 with_open ds h = if is_open ds h then ds else ds ++ opened h ∷ []
 
--- a fragment with a reason against it is dropped and changes nothing; any other is put in
-abbrev pub added_unless : Option Why → List Datagram → IpHead → List ℕ → Added
-added_unless (Some why) ds h xs = record { datagrams = ds; outcome = Dropped why xs }
-added_unless None ds h xs = put_at (with_open ds h) (place_of ds h) (with_fragment (datagram_of ds h) h xs) h
+-- what comes of a fragment: the datagrams that are open after it, and the outcome, where octets stand for the payload
+pub record Added : Type 0 where
+  pub datagrams : List Datagram
+  pub outcome : Outcome (List ℕ)
+
+-- a plan carried out: a fragment that is refused is dropped and changes nothing; any other is put into its datagram, which is given out
+-- where it is whole
+abbrev pub added_by : FragmentPlan → List Datagram → IpHead → List ℕ → Added
+added_by (Refuse why) ds h xs = record { datagrams = ds; outcome = Dropped why xs }
+added_by (Keep i) ds h xs = record { datagrams = slice_set (with_open ds h) i (with_fragment (datagram_of ds h) h xs); outcome = Kept }
+added_by (Complete i w) ds h xs =
+    record { datagrams = remove (with_open ds h) i; outcome = Whole w (octets_in (with_fragment (datagram_of ds h) h xs).octets) }
 
 -- a fragment with header h and the octets xs comes (RFC 791, section 3.2, "An Example Reassembly Procedure")
 abbrev pub added : List Datagram → IpHead → List ℕ → Added
-added ds h xs = added_unless (refusal_of ds h (length xs)) ds h xs
+added ds h xs = added_by (plan_of ds h (length xs)) ds h xs
 
 -- one tick older
 abbrev pub older : Datagram → Datagram
 older d = record d { age = d.age + 1 }
+
+-- over a tick a datagram stays open where it is younger than 60 ticks then, or is over
+abbrev pub stays : Datagram → Bool
+stays d = nat_lt (older d).age 60
+
+abbrev pub is_over : Datagram → Bool
+is_over d = not (stays d)
 
 -- a tick: each datagram is one tick older, and those of 60 ticks are given up
 abbrev pub aged : List Datagram → List Datagram
@@ -124,7 +150,3 @@ abbrev pub whole_in : Outcome (List ℕ) → Option (IpHead × List ℕ)
 whole_in (Whole h xs) = Some (h, xs)
 whole_in Kept = None
 whole_in (Dropped why xs) = None
-
--- a fragment makes its datagram whole
-abbrev pub makes_whole : List Datagram → IpHead → List ℕ → Bool
-makes_whole ds h xs = is_some (whole_in (added ds h xs).outcome)

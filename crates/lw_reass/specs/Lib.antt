@@ -1,3 +1,4 @@
 pub mod Datagrams
 pub mod Table
 pub mod Opens
+pub mod Fragments

@@ -1,8 +1,8 @@
 ghost use Rattle.std.specs.Prelude.{◌≡◌, ℕ, ◌+◌, ◌^◌, ◌<◌, ◌≤◌, ◌&&◌, ◌||◌, true, false, List, [], ◌∷◌, length};
 ghost use Rattle.std.specs.List.{All};
 ghost use Rattle.lw_runs.specs.Positions.{overlaps};
-ghost use Rattle.lw_runs.specs.Kept.{Holds};
-ghost use Rattle.lw_reass.specs.Datagrams.{fits as fits_in, same_key, key_of, ends_behind as is_behind, opened, is_whole, with_fragment, end_with as the_end, head_with as the_head};
+ghost use Rattle.lw_runs.specs.Kept.{Holds, Stand};
+ghost use Rattle.lw_reass.specs.Datagrams.{fits as fits_in, same_key, key_of, ends_behind as is_behind, opened, completes as makes_whole, with_fragment, end_with as the_end, head_with as the_head};
 ghost use Rattle.lw_reass.specs.Opens.{datagram as seen_as, IsOpen};
 
 use lw_base::{Ip, IpHead};
@@ -74,12 +74,12 @@ impl<P: Payload> Open<P> {
             && (h.mf || self.runs.reach() <= to)
     }
 
-    /// Whether it would be whole with a fragment of `n` octets put in that fits it and overlaps none.
-    pub fn would_be_whole(&self, h: &IpHead, n: u32) -> bool
-        requires open { IsOpen self.now 0 }
+    /// Whether a fragment of `n` octets that fits it and overlaps none makes it whole.
+    pub fn completes(&self, h: &IpHead, n: u32) -> bool
+        requires open { IsOpen P.seen self.now }
         requires fits { fits_in (seen_as self.now) h.now n ≡ true }
         requires free { overlaps self.now.runs.octets h.now.offset n ≡ false }
-        ensures { (xs : List ℕ) → length xs ≡ n → result ≡ is_whole (with_fragment (seen_as self.now) h.now xs) }
+        ensures { result ≡ makes_whole (seen_as self.now) h.now n }
     {
         match end_with(self.end, h, n) {
             Some(end) => end == self.runs.count() + n,
@@ -96,7 +96,7 @@ impl<P: Payload> Open<P> {
         requires room { 0 < self.old.runs.room }
         ensures datagram { seen_as self.new ≡ with_fragment (seen_as self.old) h.now (P.seen body).octets }
         ensures bodies { Holds P.seen (body ∷ self.old.runs.bodies) self.new.runs.bodies }
-        ensures number { length self.new.runs.bodies ≡ length self.old.runs.bodies + 1 }
+        ensures stand { Stand P.seen self.new.runs.octets self.new.runs.bodies }
     {
         self.end = end_with(self.end, h, body.len());
         self.head = head_with(self.head, h);

@@ -12,6 +12,17 @@ pub enum Why {
     Overlap,
 }
 
+/// What is to become of a fragment.
+#[derive(Clone, Copy, Debug, PartialEq, Eq)]
+pub enum FragmentPlan {
+    /// It isn't kept.
+    Refuse(Why),
+    /// It goes into the datagram at this place, which opens where none is there.
+    Keep(usize),
+    /// It makes the datagram at this place whole, which has this header.
+    Complete(usize, IpHead),
+}
+
 /// What came of a fragment.
 #[derive(Debug, Drop)]
 pub enum Outcome<P> {

@@ -1,8 +1,8 @@
-//! Fragments in their orders, their faults, and their age.
+//! Fragments of one datagram out of their order, one of them twice, and the age of another.
 ghost use Rattle.std.specs.Prelude.{◌^◌, ◌<◌, length};
 
-use crate::{Outcome, Reass, Why};
-use lw_base::{Ip, IpHead};
+use crate::{FragmentPlan, Outcome, Reass, Why};
+use lw_base::{Ip, IpHead, Octets};
 use std::alloc::Global;
 use std::test::Fail;
 
@@ -24,7 +24,7 @@ fn head(id: u16, offset: u32, mf: bool) -> IpHead {
 
 #[derive(Drop)]
 enum Came {
-    Whole(IpHead, Vec<u8>),
+    Whole(IpHead, Octets, Vec<u8>),
     Kept,
     Dropped(Why),
 }
@@ -33,16 +33,21 @@ fn add(alloc: Global, table: &mut Reass<Vec<u8>>, h: &IpHead, octets: &[u8]) -> 
     requires { length octets.now < 2 ^ 32 }
 {
     let mut body = Vec::from_slice(alloc, octets)?;
-    table.room(h, octets.len() as u32, &mut body)?;
-    Ok(match table.add(h, body) {
-        Outcome::Whole(h, p) => Came::Whole(h, p),
+    let plan = table.plan(h, octets.len() as u32);
+    let mut told = Octets::from_vec(Vec::new(alloc));
+    if let FragmentPlan::Complete(_, _) = plan {
+        told = table.whole_octets(alloc, &plan, h, octets)?;
+    }
+    table.ready(&plan, &mut body)?;
+    Ok(match table.add(plan, h, body) {
+        Outcome::Whole(h, p) => Came::Whole(h, told, p),
         Outcome::Kept => Came::Kept,
         Outcome::Dropped(why, _) => Came::Dropped(why),
     })
 }
 
 #[test]
-fn the_third_the_first_and_the_second_make_a_whole(rt: HostRuntime) -> Result<(), Fail> {
+fn fragments_out_of_order_make_a_whole(rt: HostRuntime) -> Result<(), Fail> {
     let mut table = Reass::new(rt.alloc())?;
     let third = add(rt.alloc(), &mut table, &head(7, 16, false), b"qrstuvwxyzAB")?;
     assert!(rt; matches!(&third, Came::Kept));
@@ -50,27 +55,24 @@ fn the_third_the_first_and_the_second_make_a_whole(rt: HostRuntime) -> Result<()
     assert!(rt; matches!(&first, Came::Kept));
     let repeat = add(rt.alloc(), &mut table, &head(7, 0, true), b"abcdefgh")?;
     assert!(rt; matches!(&repeat, Came::Dropped(Why::Overlap)));
-    assert_eq!(rt; table.kept(), 2);
-    let seen = table.whole_with(rt.alloc(), &head(7, 8, true), b"ijklmnop")?;
-    let Some((seen_head, seen_octets)) = seen else {
-        panic!(rt; "not whole")
-    };
-    assert_eq!(rt; seen_head, head(7, 0, true));
-    assert_eq!(rt;
-        seen_octets.as_slice(),
-        b"abcdefghijklmnopqrstuvwxyzAB".as_slice()
-    );
+    let other = add(rt.alloc(), &mut table, &head(8, 0, true), b"abcdefgh")?;
+    assert!(rt; matches!(&other, Came::Kept));
     let second = add(rt.alloc(), &mut table, &head(7, 8, true), b"ijklmnop")?;
-    let Came::Whole(h, octets) = second else {
+    let Came::Whole(h, told, octets) = second else {
         panic!(rt; "not whole")
     };
     assert_eq!(rt; h, head(7, 0, true));
+    assert_eq!(rt; told.as_slice(), octets.as_slice());
     assert_eq!(rt;
         octets.as_slice(),
         b"abcdefghijklmnopqrstuvwxyzAB".as_slice()
     );
-    assert_eq!(rt; table.kept(), 0);
-    let again = add(rt.alloc(), &mut table, &head(7, 8, true), b"ijklmnop")?;
-    assert!(rt; matches!(&again, Came::Kept));
+    let mut gone = Vec::new(rt.alloc());
+    for _ in 0..60 {
+        assert_eq!(rt; table.kept(), 1);
+        gone.reserve(table.kept() as usize)?;
+        table.age(&mut gone);
+    }
+    assert_eq!(rt; (table.kept(), gone.len()), (0, 1));
     Ok(())
 }

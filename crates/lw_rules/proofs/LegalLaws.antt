@@ -1,13 +1,13 @@
 -- The serial schedule gives a legal transcript.
-use Rattle.std.proofs.Common.{ℕ, ◌≡◌, ◌+◌, ◌++◌, ◌∙◌, List, [], ◌∷◌, suc, length, map, slice_get, All, Some, ap, sym, subst, refl, arith, false, append_assoc, append-nil, add_comm, add-zero, codes}
+use Rattle.std.proofs.Common.{ℕ, ◌≡◌, ◌+◌, ◌++◌, ◌∙◌, List, [], ◌∷◌, suc, length, map, slice_get, All, Some, ap, sym, subst, refl, arith, append_assoc, append-nil, add_comm, add-zero, codes}
 use Rattle.std.proofs.lemmas.List.Elements.{All-nil, All-cons}
 use Rattle.std.proofs.lemmas.List.{length-append}
 use Rattle.std.specs.List.Sorted.{IsStrictlyIncreasing}
-use Rattle.lw_core.specs.declared.event.Event.TheVariants.{Frame, Stop as StopEvent}
-use Rattle.lw_core.specs.declared.event.Entry.{Entry}
+use Rattle.lw_events.specs.declared.event.Event.TheVariants.{Frame, Stop as StopEvent}
+use Rattle.lw_events.specs.declared.entry.Entry.{Entry}
 use Rattle.lw_core.specs.State.{State, opening}
 use Rattle.lw_core.specs.Step.{step}
-use Rattle.lw_core.specs.History.{entry_of, state_after}
+use Rattle.lw_core.specs.History.{entry_of, granted, state_after}
 use Rattle.lw_script.specs.declared.parts.Call.{Call}
 use Rattle.lw_script.specs.declared.parts.Call.TheVariants.{FeedAll, Stop}
 use Rattle.lw_script.specs.declared.parts.Script.{Script}
@@ -19,10 +19,10 @@ use Rattle.lw_transcript.specs.declared.lines.Outcome.TheVariants.{Ok as OkOutco
 use Rattle.lw_transcript.specs.declared.lines.CallPart.{CallPart}
 use Rattle.lw_transcript.specs.declared.lines.ActorPart.{ActorPart}
 use Rattle.lw_transcript.specs.declared.lines.Body.{Body}
-use Rattle.lw_rules.specs.Lines.{core_lines_from, core_line}
+use Rattle.lw_rules.specs.Lines.{core_lines_from}
 use Rattle.lw_rules.specs.Schedule.{entries_of, named_from, after_calls, call_parts, beginning, body_of, serial_transcript}
-use Rattle.lw_rules.specs.Legal.{count_from, names_in, names_of, IsFrameLine, AreCalls, ReplayRule, InputRule, EndRule, IsLegal}
-use Rattle.lw_rules.proofs.LinesLaws.{IsServed, replay_entries, entries_back, entries_served, numbers_of_lines, length-core_lines_from, frames_of_lines, count_lines, count_from-append, count_rises, seam, frames_given}
+use Rattle.lw_rules.specs.Legal.{count_from, names_in, names_of, IsFrameLine, AreCalls, ReplayRule, GrantRule, InputRule, EndRule, IsLegal}
+use Rattle.lw_rules.proofs.LinesLaws.{IsGranted, entries_granted, lines_granted, replay_entries, entries_back, numbers_of_lines, length-core_lines_from, frames_of_lines, count_lines, count_from-append, count_rises, seam, frames_given}
 
 -- the names of the evidence of frames, counted from n + 1
 names_of_named : (n : ℕ) (frames : List (List ℕ)) → names_in (named_from n frames) ≡ count_from (n + 1) frames
@@ -37,25 +37,29 @@ length-named_from n (frame ∷ frames) = ap suc (length-named_from (n + 1) frame
 -- counting frames, events or entries gives the same numbers
 count_entries : (s : State) (n : ℕ) (frames : List (List ℕ)) → count_from n (entries_of s 0 (map Frame frames)) ≡ count_from n frames
 count_entries s n [] = refl
-count_entries s n (frame ∷ frames) = ap (λ (ns : List ℕ). n ∷ ns) (count_entries (step s (Frame frame) false).state (n + 1) frames)
+count_entries s n (frame ∷ frames) = ap (λ (ns : List ℕ). n ∷ ns) (count_entries (step s (Frame frame) granted).state (n + 1) frames)
 
 -- as many entries as frames
 length_entries : (s : State) (frames : List (List ℕ)) → length (entries_of s 0 (map Frame frames)) ≡ length frames
 length_entries s [] = refl
-length_entries s (frame ∷ frames) = ap suc (length_entries (step s (Frame frame) false).state frames)
+length_entries s (frame ∷ frames) = ap suc (length_entries (step s (Frame frame) granted).state frames)
+
+-- an entry under its number
+abbrev line_of : ℕ → Entry → CoreLine
+line_of n e = record { number = n; entry = e }
 
 -- each frame that was fed has its line, whatever stands before the lines and behind them
 lines_named : (core front : List CoreLine) (s : State) (n : ℕ) (frames : List (List ℕ)) (more : List Entry) → length front ≡ n → core ≡ front ++ core_lines_from (n + 1) (entries_of s 0 (map Frame frames) ++ more) → All (IsFrameLine core 0) (names_in (named_from n frames))
 lines_named core front s n [] more long is = All-nil (IsFrameLine core 0)
 lines_named core front s n (frame ∷ frames) more long is =
-    let line : CoreLine = core_line (n + 1) (entry_of s 0 (Frame frame) false) in
-    let behind : List CoreLine = core_lines_from (n + 1 + 1) (entries_of (step s (Frame frame) false).state 0 (map Frame frames) ++ more) in
+    let line : CoreLine = record { number = n + 1; entry = entry_of s 0 (Frame frame) granted } in
+    let behind : List CoreLine = core_lines_from (n + 1 + 1) (entries_of (step s (Frame frame) granted).state 0 (map Frame frames) ++ more) in
     let stands : slice_get core n ≡ Some line =
     subst (λ k. slice_get core k ≡ Some line) long (rw is (seam front line behind)) in
     All-cons (IsFrameLine core 0) (n + 1) (names_in (named_from (n + 1) frames))
     (frame, record { place = n; line = line; number = refl; stands = stands; own = refl; given = refl })
     (
-    lines_named core (front ++ line ∷ []) (step s (Frame frame) false).state (n + 1) frames more
+    lines_named core (front ++ line ∷ []) (step s (Frame frame) granted).state (n + 1) frames more
     (length-append front (line ∷ []) ∙ ap (λ k. k + 1) long)
     (is ∙ sym (append_assoc front (line ∷ []) behind))
     )
@@ -64,22 +68,22 @@ lines_named core front s n (frame ∷ frames) more long is =
 core_lines_from-append : (n : ℕ) (xs ys : List Entry) → core_lines_from n (xs ++ ys) ≡ core_lines_from n xs ++ core_lines_from (n + length xs) ys
 core_lines_from-append n [] ys = ap (λ k. core_lines_from k ys) (sym (add-zero n))
 core_lines_from-append n (x ∷ xs) ys =
-    ap (λ (lines : List CoreLine). core_line n x ∷ lines)
+    ap (λ (lines : List CoreLine). line_of n x ∷ lines)
     (core_lines_from-append (n + 1) xs ys ∙ ap (λ k. core_lines_from (n + 1) xs ++ core_lines_from k ys) (omega arith))
 
 -- the last line of a history
-last_line : (xs : List Entry) (e : Entry) → slice_get (core_lines_from 1 (xs ++ e ∷ [])) (length xs) ≡ Some (core_line (1 + length xs) e)
+last_line : (xs : List Entry) (e : Entry) → slice_get (core_lines_from 1 (xs ++ e ∷ [])) (length xs) ≡ Some (line_of (1 + length xs) e)
 last_line xs e =
     let parts = core_lines_from-append 1 xs (e ∷ []) in
-    let found = seam (core_lines_from 1 xs) (core_line (1 + length xs) e) [] in
-    rw parts (subst (λ k. slice_get (core_lines_from 1 xs ++ core_line (1 + length xs) e ∷ []) k ≡ Some (core_line (1 + length xs) e)) (length-core_lines_from 1 xs) found)
+    let found = seam (core_lines_from 1 xs) (line_of (1 + length xs) e) [] in
+    rw parts (subst (λ k. slice_get (core_lines_from 1 xs ++ line_of (1 + length xs) e ∷ []) k ≡ Some (line_of (1 + length xs) e)) (length-core_lines_from 1 xs) found)
 
 -- the history of a run that feeds these frames and then stops, from a state
 abbrev entries_fed : State → List (List ℕ) → List Entry
 entries_fed s frames = entries_of s 0 (map Frame frames)
 
 abbrev stop_entry : State → List (List ℕ) → Entry
-stop_entry s frames = entry_of (state_after s (map Frame frames)) 0 StopEvent false
+stop_entry s frames = entry_of (state_after s (map Frame frames)) 0 StopEvent granted
 
 -- what the driver of such a run saw and did
 abbrev driver_parts : State → List (List ℕ) → List CallPart
@@ -117,7 +121,7 @@ calls_made s frames =
           refl,
           record {
             place = length fed;
-            line = core_line (1 + length fed) (stop_entry s frames);
+            line = line_of (1 + length fed) (stop_entry s frames);
             number = refl;
             stands = last_line fed (stop_entry s frames);
             own = refl;
@@ -134,11 +138,17 @@ replayed : (script : Script) (frames : List (List ℕ)) → ReplayRule script (r
 replayed script frames =
     let s = opening script.net (limits_of script.profile) in
     let entries = entries_fed s frames ++ stop_entry s frames ∷ [] in
-    let stopped = All-cons IsServed (stop_entry s frames) [] refl (All-nil IsServed) in
-    let served = entries_served s 0 (map Frame frames) (stop_entry s frames ∷ []) stopped in
     record {
       numbers = numbers_of_lines 1 entries ∙ sym (count_lines 1 1 entries);
-      replay = rw (entries_back 1 entries served) (replay_entries s 0 (map Frame frames) (stop_entry s frames ∷ []) (refl, tt));
+      replay = rw (entries_back 1 entries) (replay_entries s 0 (map Frame frames) (stop_entry s frames ∷ []) (refl, tt));
+    }
+
+-- each event was granted all
+all_granted : (s : State) (frames : List (List ℕ)) → GrantRule (run_body s frames)
+all_granted s frames =
+    let stop = All-cons IsGranted (stop_entry s frames) [] refl (All-nil IsGranted) in
+    record {
+      granted = lines_granted 1 (entries_fed s frames ++ stop_entry s frames ∷ []) (entries_granted s 0 (map Frame frames) (stop_entry s frames ∷ []) stop);
     }
 
 -- the frames fed are those of the capture
@@ -160,6 +170,7 @@ with_calls script frames calls =
 -- what is legal of a body, with the calls named apart from the script
 record Legal (script : Script) (frames : List (List ℕ)) (calls : List Call) (body : Body) : Type 0 where
   replay : ReplayRule script body
+  grants : GrantRule body
   driver : ActorPart
   only : body.actors ≡ driver ∷ []
   made : AreCalls body.core 0 calls driver.calls
@@ -175,6 +186,7 @@ legal_run script frames =
     let named = all_named s frames in
     record {
       replay = replayed script frames;
+      grants = all_granted s frames;
       driver = record { calls = driver_parts s frames };
       only = refl;
       made = calls_made s frames;
@@ -194,6 +206,7 @@ serial_is_legal script frames only =
       version = refl;
       kind = refl;
       replay = legal.replay;
+      grants = legal.grants;
       calls = record {
         driver = legal.driver;
         only = legal.only;

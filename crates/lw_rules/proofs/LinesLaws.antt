@@ -1,72 +1,60 @@
 -- Laws of histories, and of the lines that they are written as.
-use Rattle.std.proofs.Common.{ℕ, ◌≡◌, ◌+◌, ◌<◌, ◌++◌, ◌∙◌, Bool, false, List, [], ◌∷◌, zero, suc, length, map, sum_by, slice_get, get_or, All, Some, ap, sym, refl, arith, add-zero}
+use Rattle.std.proofs.Common.{ℕ, ◌≡◌, ◌+◌, ◌<◌, ◌++◌, ◌∙◌, List, [], ◌∷◌, zero, suc, length, map, sum_by, slice_get, get_or, All, Some, ap, sym, refl, arith, add-zero}
 use Rattle.std.specs.List.{flat_map}
-use Rattle.std.proofs.lemmas.List.Elements.{All-cons, All-head, All-tail}
+use Rattle.std.proofs.lemmas.List.Elements.{All-nil, All-cons, All-head, All-tail}
 use Rattle.std.proofs.lemmas.List.Sums.{sum_by-cons}
 use Rattle.std.specs.List.Sorted.{IsStrictlyIncreasing}
 use Rattle.std.specs.Prelude.{option_to_list}
-use Rattle.lw_core.specs.declared.event.Event.{Event}
-use Rattle.lw_core.specs.declared.event.Event.TheVariants.{Frame, Stop}
-use Rattle.lw_core.specs.declared.event.Reply.{Reply}
-use Rattle.lw_core.specs.declared.event.Reply.TheVariants.{Done}
-use Rattle.lw_core.specs.declared.event.Entry.{Entry}
+use Rattle.lw_events.specs.declared.event.Event.{Event}
+use Rattle.lw_events.specs.declared.event.Event.TheVariants.{Frame, Stop}
+use Rattle.lw_events.specs.declared.entry.Entry.{Entry}
 use Rattle.lw_core.specs.State.{State}
 use Rattle.lw_core.specs.Step.{step}
-use Rattle.lw_core.specs.History.{IsReplay, entry_of, state_after}
+use Rattle.lw_core.specs.History.{IsReplay, entry_of, granted, state_after}
+use Rattle.lw_events.specs.Events.{grants_of}
 use Rattle.lw_transcript.specs.declared.lines.CoreLine.{CoreLine}
-use Rattle.lw_rules.specs.Lines.{core_line, core_lines_from, frames_sent, entry_in, event_in, event_line, reply_in, reply_line}
+use Rattle.lw_rules.specs.Lines.{core_lines_from, frames_sent}
 use Rattle.lw_rules.specs.Schedule.{entries_of}
 use Rattle.lw_rules.specs.Legal.{count_from, frame_in}
 
 -- each event has its entry
 pub length-entries_of : (s : State) (actor : ℕ) (events : List (Event (List ℕ))) → length (entries_of s actor events) ≡ length events
 length-entries_of s actor [] = refl
-length-entries_of s actor (event ∷ events) = ap suc (length-entries_of (step s event false).state actor events)
+length-entries_of s actor (event ∷ events) = ap suc (length-entries_of (step s event granted).state actor events)
 
 -- events that are made one after another are a replay, before any other replay
 pub replay_entries : (s : State) (actor : ℕ) (events : List (Event (List ℕ))) (more : List Entry) → IsReplay (state_after s events) more → IsReplay s (entries_of s actor events ++ more)
 replay_entries s actor [] more h = h
-replay_entries s actor (Frame octets ∷ events) more h = (refl, replay_entries (step s (Frame octets) false).state actor events more h)
-replay_entries s actor (Stop ∷ events) more h = (refl, replay_entries (step s Stop false).state actor events more h)
+replay_entries s actor (Frame octets ∷ events) more h = (refl, replay_entries (step s (Frame octets) granted).state actor events more h)
+replay_entries s actor (Stop ∷ events) more h = (refl, replay_entries (step s Stop granted).state actor events more h)
 
--- RAM wasn't short for an entry
-abbrev pub IsServed : Entry → Type 0
-IsServed e = e.short ≡ false
+-- the entry of an event that is granted all tells that it was
+pub entry_granted : (s : State) (actor : ℕ) (event : Event (List ℕ)) → grants_of (entry_of s actor event granted) ≡ granted
+entry_granted s actor (Frame octets) = refl
+entry_granted s actor Stop = refl
 
--- nor is it for the entry of an event that finds enough
-pub entry_served : (s : State) (actor : ℕ) (event : Event (List ℕ)) → IsServed (entry_of s actor event false)
-entry_served s actor (Frame octets) = refl
-entry_served s actor Stop = refl
+-- what an entry tells of its grants is that all was granted: no pool was short for it, and it posted nothing
+abbrev pub IsGranted : Entry → Type 0
+IsGranted e = grants_of e ≡ granted
 
--- so it is for all entries of events that are made one after another
-pub entries_served : (s : State) (actor : ℕ) (events : List (Event (List ℕ))) (more : List Entry) → All IsServed more → All IsServed (entries_of s actor events ++ more)
-entries_served s actor [] more rest = rest
-entries_served s actor (event ∷ events) more rest =
-    All-cons IsServed (entry_of s actor event false) (entries_of (step s event false).state actor events ++ more)
-    (entry_served s actor event) (entries_served (step s event false).state actor events more rest)
+-- so do all entries of events that are made one after another
+pub entries_granted : (s : State) (actor : ℕ) (events : List (Event (List ℕ))) (more : List Entry) → All IsGranted more → All IsGranted (entries_of s actor events ++ more)
+entries_granted s actor [] more rest = rest
+entries_granted s actor (event ∷ events) more rest =
+    All-cons IsGranted (entry_of s actor event granted) (entries_of (step s event granted).state actor events ++ more)
+    (entry_granted s actor event) (entries_granted (step s event granted).state actor events more rest)
 
--- what is written of an event is read as that event
-event_back : (event : Event (List ℕ)) → event_in (event_line event) ≡ event
-event_back (Frame octets) = refl
-event_back Stop = refl
+-- the lines tell what the entries tell
+pub lines_granted : (n : ℕ) (es : List Entry) → All IsGranted es → All (λ line. IsGranted line.entry) (core_lines_from n es)
+lines_granted n [] all = All-nil (λ (line : CoreLine). IsGranted line.entry)
+lines_granted n (e ∷ es) all =
+    All-cons (λ (line : CoreLine). IsGranted line.entry) (record { number = n; entry = e }) (core_lines_from (n + 1) es)
+    (All-head IsGranted e es all) (lines_granted (n + 1) es (All-tail IsGranted e es all))
 
--- what is written of a reply is read as that reply
-reply_back : (reply : Reply) → reply_in (reply_line reply) ≡ reply
-reply_back Done = refl
-
--- what is written of an entry is read as that entry, where RAM wasn't short for it
-entry_back : (n : ℕ) (e : Entry) → IsServed e → entry_in (core_line n e) ≡ e
-entry_back n e served =
-    ap (λ (event : Event (List ℕ)). let made : Entry = record { actor = e.actor; event = event; short = false; frames = e.frames; reply = reply_in (reply_line e.reply) } in made) (event_back e.event)
-    ∙ ap (λ (reply : Reply). let made : Entry = record { actor = e.actor; event = e.event; short = false; frames = e.frames; reply = reply } in made) (reply_back e.reply)
-    ∙ ap (λ (short : Bool). let made : Entry = record { actor = e.actor; event = e.event; short = short; frames = e.frames; reply = e.reply } in made) (sym served)
-
--- the lines of a history are read as that history, where RAM was never short
-pub entries_back : (n : ℕ) (es : List Entry) → All IsServed es → map entry_in (core_lines_from n es) ≡ es
-entries_back n [] served = refl
-entries_back n (e ∷ es) served =
-    ap (λ (x : Entry). x ∷ map entry_in (core_lines_from (n + 1) es)) (entry_back n e (All-head IsServed e es served))
-    ∙ ap (λ (xs : List Entry). e ∷ xs) (entries_back (n + 1) es (All-tail IsServed e es served))
+-- the lines of a history are read as that history
+pub entries_back : (n : ℕ) (es : List Entry) → map (λ line. line.entry) (core_lines_from n es) ≡ es
+entries_back n [] = refl
+entries_back n (e ∷ es) = ap (λ (xs : List Entry). e ∷ xs) (entries_back (n + 1) es)
 
 -- the lines of a history are numbered in turn
 pub numbers_of_lines : (n : ℕ) (es : List Entry) → map (λ line. line.number) (core_lines_from n es) ≡ count_from n es
@@ -79,10 +67,10 @@ length-core_lines_from n [] = refl
 length-core_lines_from n (e ∷ es) = ap suc (length-core_lines_from (n + 1) es)
 
 -- the lines have the frames of the entries
-pub frames_of_lines : (n : ℕ) (es : List Entry) → sum_by (λ line. length line.outs) (core_lines_from n es) ≡ frames_sent es
+pub frames_of_lines : (n : ℕ) (es : List Entry) → sum_by (λ line. length line.entry.frames) (core_lines_from n es) ≡ frames_sent es
 frames_of_lines n [] = refl
 frames_of_lines n (e ∷ es) =
-    sum_by-cons (λ (line : CoreLine). length line.outs) (core_line n e) (core_lines_from (n + 1) es)
+    sum_by-cons (λ (line : CoreLine). length line.entry.frames) (record { number = n; entry = e }) (core_lines_from (n + 1) es)
     ∙ ap (λ k. length e.frames + k) (frames_of_lines (n + 1) es)
     ∙ sym (sum_by-cons (λ (x : Entry). length x.frames) e es)
 
@@ -124,14 +112,14 @@ seam [] x behind = refl
 seam (y ∷ front) x behind = seam front x behind
 
 -- the frames that lines were given, where events of frames come before other entries
-pub frames_given : (s : State) (actor n : ℕ) (frames : List (List ℕ)) (more : List Entry) → flat_map (λ line. option_to_list (frame_in line.event)) (core_lines_from n (entries_of s actor (map Frame frames) ++ more)) ≡ frames ++ flat_map (λ line. option_to_list (frame_in line.event)) (core_lines_from (n + length frames) more)
+pub frames_given : (s : State) (actor n : ℕ) (frames : List (List ℕ)) (more : List Entry) → flat_map (λ line. option_to_list (frame_in line.entry.event)) (core_lines_from n (entries_of s actor (map Frame frames) ++ more)) ≡ frames ++ flat_map (λ line. option_to_list (frame_in line.entry.event)) (core_lines_from (n + length frames) more)
 frames_given s actor n [] more =
-    ap (λ k. flat_map (λ line. option_to_list (frame_in line.event)) (core_lines_from k more)) (sym (add-zero n))
+    ap (λ k. flat_map (λ line. option_to_list (frame_in line.entry.event)) (core_lines_from k more)) (sym (add-zero n))
 frames_given s actor n (frame ∷ frames) more =
     ap (λ (xs : List (List ℕ)). frame ∷ xs)
     (
-    frames_given (step s (Frame frame) false).state actor (n + 1) frames more
+    frames_given (step s (Frame frame) granted).state actor (n + 1) frames more
     ∙ ap
-    (λ k. frames ++ flat_map (λ line. option_to_list (frame_in line.event)) (core_lines_from k more))
+    (λ k. frames ++ flat_map (λ line. option_to_list (frame_in line.entry.event)) (core_lines_from k more))
     (omega arith)
     )

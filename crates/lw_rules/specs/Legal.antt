@@ -3,8 +3,11 @@
 use Rattle.std.specs.Prelude.{ℕ, ◌≡◌, ◌+◌, List, [], ◌∷◌, length, map, sum_by, slice_get, All, Option, Some, None, option_to_list}
 use Rattle.std.specs.List.{flat_map}
 use Rattle.std.specs.List.Sorted.{IsStrictlyIncreasing}
+use Rattle.lw_events.specs.declared.event.Event.{Event}
+use Rattle.lw_events.specs.declared.event.Event.TheVariants.{Frame, Stop as StopEvent}
+use Rattle.lw_events.specs.Events.{grants_of}
 use Rattle.lw_core.specs.State.{opening}
-use Rattle.lw_core.specs.History.{IsReplay}
+use Rattle.lw_core.specs.History.{IsReplay, granted}
 use Rattle.lw_script.specs.declared.parts.Call.{Call}
 use Rattle.lw_script.specs.declared.parts.Call.TheVariants.{FeedAll, Stop}
 use Rattle.lw_script.specs.declared.parts.Script.{Script}
@@ -12,8 +15,6 @@ use Rattle.lw_script.specs.Parts.{call_text, limits_of}
 use Rattle.lw_script.specs.Driver.{driver_calls}
 use Rattle.lw_transcript.specs.declared.lines.Version.TheVariants.{One}
 use Rattle.lw_transcript.specs.declared.lines.Kind.TheVariants.{Serial}
-use Rattle.lw_transcript.specs.declared.lines.EventLine.{EventLine}
-use Rattle.lw_transcript.specs.declared.lines.EventLine.TheVariants.{Frame as FrameLine, Stop as StopLine}
 use Rattle.lw_transcript.specs.declared.lines.CoreLine.{CoreLine}
 use Rattle.lw_transcript.specs.declared.lines.Evidence.{Evidence}
 use Rattle.lw_transcript.specs.declared.lines.Evidence.TheVariants.{At}
@@ -22,7 +23,6 @@ use Rattle.lw_transcript.specs.declared.lines.CallPart.{CallPart}
 use Rattle.lw_transcript.specs.declared.lines.ActorPart.{ActorPart}
 use Rattle.lw_transcript.specs.declared.lines.Body.{Body}
 use Rattle.lw_transcript.specs.declared.lines.Transcript.{Transcript}
-use Rattle.lw_rules.specs.Lines.{entry_in}
 use Rattle.lw_rules.specs.Schedule.{serial_transcript}
 
 -- as many numbers as there are elements, counted from n
@@ -33,7 +33,7 @@ count_from n (x ∷ xs) = n ∷ count_from (n + 1) xs
 -- the replay rule: the core lines are numbered from 1, and they are a legal history of the serial stack
 pub record ReplayRule (script : Script) (body : Body) : Type 0 where
   pub numbers : map (λ line. line.number) body.core ≡ count_from 1 body.core
-  pub replay : IsReplay (opening script.net (limits_of script.profile)) (map entry_in body.core)
+  pub replay : IsReplay (opening script.net (limits_of script.profile)) (map (λ line. line.entry) body.core)
 
 -- the numbers of the core lines that evidence names
 abbrev pub names_in : List Evidence → List ℕ
@@ -41,29 +41,29 @@ names_in [] = []
 names_in (At n ∷ seen) = n ∷ names_in seen
 
 -- the frame of an event, where it has one
-abbrev pub frame_in : EventLine → Option (List ℕ)
-frame_in (FrameLine octets) = Some octets
-frame_in StopLine = None
+abbrev pub frame_in : Event (List ℕ) → Option (List ℕ)
+frame_in (Frame octets) = Some octets
+frame_in StopEvent = None
 
 -- core line n, counted from 1, is an actor's, and it was given this event
-pub record IsLine (core : List CoreLine) (actor n : ℕ) (event : EventLine) : Type 0 where
+pub record IsLine (core : List CoreLine) (actor n : ℕ) (event : Event (List ℕ)) : Type 0 where
   pub place : ℕ
   pub line : CoreLine
   pub number : n ≡ place + 1
   pub stands : slice_get core place ≡ Some line
-  pub own : line.actor ≡ actor
-  pub given : line.event ≡ event
+  pub own : line.entry.actor ≡ actor
+  pub given : line.entry.event ≡ event
 
 -- core line n of an actor was given a frame
 abbrev pub IsFrameLine : List CoreLine → ℕ → ℕ → Type 0
-IsFrameLine core actor n = (octets : List ℕ) × IsLine core actor n (FrameLine octets)
+IsFrameLine core actor n = (octets : List ℕ) × IsLine core actor n (Frame octets)
 
 -- the call relation: `feed all` names one line of a frame for each frame that it fed; `stop` names its line
 abbrev pub IsCall : List CoreLine → ℕ → Call → CallPart → Type 0
 IsCall core actor FeedAll part =
     All (IsFrameLine core actor) (names_in part.seen) × (part.result ≡ Fed (length part.seen))
 IsCall core actor Stop part =
-    (n : ℕ) × (part.seen ≡ At n ∷ []) × IsLine core actor n StopLine × (part.result ≡ OkOutcome)
+    (n : ℕ) × (part.seen ≡ At n ∷ []) × IsLine core actor n StopEvent × (part.result ≡ OkOutcome)
 
 -- calls of an actor and what is written of them, in their order
 abbrev pub AreCalls : List CoreLine → ℕ → List Call → List CallPart → Type 0
@@ -89,18 +89,23 @@ pub record CallRule (script : Script) (frames : List (List ℕ)) (body : Body) :
 
 -- the input rule: the frames that were fed are those of the capture, each once, in order
 pub record InputRule (frames : List (List ℕ)) (body : Body) : Type 0 where
-  pub fed : flat_map (λ line. option_to_list (frame_in line.event)) body.core ≡ frames
+  pub fed : flat_map (λ line. option_to_list (frame_in line.entry.event)) body.core ≡ frames
 
 -- the end rule: the end line counts the core lines and the frames sent
 pub record EndRule (body : Body) : Type 0 where
   pub core : body.end.core ≡ length body.core
-  pub out : body.end.out ≡ sum_by (λ line. length line.outs) body.core
+  pub out : body.end.out ≡ sum_by (λ line. length line.entry.frames) body.core
+
+-- the grant rule: each event was granted all that it asked for, so no pool was short for it, and nothing was posted
+pub record GrantRule (body : Body) : Type 0 where
+  pub granted : All (λ line. grants_of line.entry ≡ granted) body.core
 
 -- the legal transcripts of `serial`
 pub record IsLegal (script : Script) (frames : List (List ℕ)) (t : Transcript) : Type 0 where
   pub version : t.version ≡ One
   pub kind : t.kind ≡ Serial
   pub replay : ReplayRule script t.body
+  pub grants : GrantRule t.body
   pub calls : CallRule script frames t.body
   pub input : InputRule frames t.body
   pub ends : EndRule t.body

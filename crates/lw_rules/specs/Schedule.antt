@@ -1,11 +1,11 @@
 -- The serial schedule: all actors of a script on one thread, turn by turn. The driver is actor 0.
-use Rattle.std.specs.Prelude.{ℕ, ◌+◌, false, List, [], ◌∷◌, ◌++◌, length, map}
-use Rattle.lw_core.specs.declared.event.Event.{Event}
-use Rattle.lw_core.specs.declared.event.Event.TheVariants.{Frame, Stop as StopEvent}
-use Rattle.lw_core.specs.declared.event.Entry.{Entry}
+use Rattle.std.specs.Prelude.{ℕ, ◌+◌, List, [], ◌∷◌, ◌++◌, length, map}
+use Rattle.lw_events.specs.declared.event.Event.{Event}
+use Rattle.lw_events.specs.declared.event.Event.TheVariants.{Frame, Stop as StopEvent}
+use Rattle.lw_events.specs.declared.entry.Entry.{Entry}
 use Rattle.lw_core.specs.State.{State, opening}
 use Rattle.lw_core.specs.Step.{step}
-use Rattle.lw_core.specs.History.{entry_of, state_after}
+use Rattle.lw_core.specs.History.{entry_of, granted, state_after}
 use Rattle.lw_script.specs.declared.parts.Call.{Call}
 use Rattle.lw_script.specs.declared.parts.Call.TheVariants.{FeedAll, Stop}
 use Rattle.lw_script.specs.declared.parts.Script.{Script}
@@ -32,10 +32,10 @@ pub record Configuration : Type 0 where
 abbrev pub beginning : Script → List (List ℕ) → Configuration
 beginning script frames = record { state = opening script.net (limits_of script.profile); left = frames; entries = [] }
 
--- the entries of events that an actor makes one after another, for which RAM isn't short
+-- the entries of events that an actor makes one after another, each granted all that it asks for
 abbrev pub entries_of : State → ℕ → List (Event (List ℕ)) → List Entry
 entries_of s actor [] = []
-entries_of s actor (event ∷ events) = entry_of s actor event false ∷ entries_of (step s event false).state actor events
+entries_of s actor (event ∷ events) = entry_of s actor event granted ∷ entries_of (step s event granted).state actor events
 
 -- events are made by an actor, one after another
 abbrev pub made : Configuration → ℕ → List (Event (List ℕ)) → Configuration

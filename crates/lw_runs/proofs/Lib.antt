@@ -12,3 +12,4 @@ pub mod ChunkPlaces
 pub mod ChunkPuts
 pub mod ChunkJoins
 pub mod ChunkTexts
+pub mod Stands

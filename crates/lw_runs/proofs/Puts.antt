@@ -6,6 +6,7 @@ use Rattle.std.proofs.lemmas.List.{take_all, drop_all, length-replicate, length-
 use Rattle.std.proofs.lemmas.List.Sums.{sum_by-cons}
 use Rattle.std.proofs.lemmas.List.Elements.{All-cons, All-head, All-tail}
 use Rattle.lw_payload.specs.Views.{View}
+use Rattle.lw_payload.specs.Totals.{stranger}
 use Rattle.lw_runs.specs.Positions.{missing, with_octets}
 use Rattle.lw_runs.specs.Kept.{Holds, parts_of, FirstCanTake}
 use Rattle.lw_runs.specs.Runs.{spread, InOrder, bodies_of}
@@ -135,6 +136,7 @@ holds_put seen r runs = record {
   parts = let f = λ (p : _). (seen p).parts in sum_put f r runs ∙ sym (sum_by-cons f r.body (bodies_of runs));
   rows = λ s. let f = λ (p : _). (seen p).rows s in sum_put f r runs ∙ sym (sum_by-cons f r.body (bodies_of runs));
   weight = let f = λ (p : _). (seen p).weight in sum_put f r runs ∙ sym (sum_by-cons f r.body (bodies_of runs));
+  strangers = λ f. let g = λ (p : _). stranger f (seen p) in let e = sum_put g r runs in let l = sum_by-cons g r.body (bodies_of runs) in omega arith;
   family = λ f all. let Q = λ (p : _). (seen p).family ≡ f in all_put Q r runs (All-head Q r.body (bodies_of runs) all) (All-tail Q r.body (bodies_of runs) all);
   short = λ all. let Q = λ (p : _). length (seen p).octets < 2 ^ 32 in all_put Q r runs (All-head Q r.body (bodies_of runs) all) (All-tail Q r.body (bodies_of runs) all);
 }

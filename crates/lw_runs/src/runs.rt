@@ -2,7 +2,7 @@ ghost use Rattle.std.specs.Prelude.{◌≡◌, ◌+◌, ◌^◌, ◌<◌, ◌≤
 ghost use Rattle.std.specs.List.{All};
 ghost use Rattle.lw_payload.specs.Calls.{IsSameButRoom};
 ghost use Rattle.lw_runs.specs.Positions.{overlaps, octets_in, with_octets};
-ghost use Rattle.lw_runs.specs.Kept.{Holds, CanJoin, parts_of};
+ghost use Rattle.lw_runs.specs.Kept.{AreSameButRoom, CanJoin, Holds, Stand, parts_of};
 ghost use Rattle.lw_runs.specs.Runs.{bodies_of};
 
 use crate::Run;
@@ -101,8 +101,7 @@ impl<P: Payload> Runs<P> {
     pub fn room_to_join(&mut self, body: &mut P) -> Result<(), NoMemory>
         requires { length (P.seen body.old).octets < 2 ^ 32 }
         ensures octets { self.new.octets ≡ self.old.octets }
-        ensures bodies { Holds P.seen self.old.bodies self.new.bodies }
-        ensures number { length self.new.bodies ≡ length self.old.bodies }
+        ensures bodies { AreSameButRoom P.seen self.old.bodies self.new.bodies }
         ensures room { self.new.room ≡ self.old.room }
         ensures body { IsSameButRoom (P.seen body.old) (P.seen body.new) }
         ensures ok { OnOk result (CanJoin P.seen self.new.bodies (P.seen body.new)) }
@@ -123,6 +122,7 @@ impl<P: Payload> Runs<P> {
         ensures octets { self.new.octets ≡ with_octets self.old.octets from (P.seen body).octets }
         ensures bodies { Holds P.seen (body ∷ self.old.bodies) self.new.bodies }
         ensures number { length self.new.bodies ≡ length self.old.bodies + 1 }
+        ensures stand { Stand P.seen self.new.octets self.new.bodies }
     {
         let parts = body.parts();
         let end = from + body.len();

@@ -2,8 +2,8 @@
 use Rattle.std.specs.Prelude.{ℕ, ◌≤◌, ◌≡◌, List, [], ◌∷◌, ◌++◌, length, All, codes}
 use Rattle.std.proofs.Common.{refl, sym, subst, arith}
 use Rattle.std.proofs.lemmas.List.Elements.{All-nil, All-cons, All-push}
-use Rattle.lw_transcript.specs.declared.lines.EventLine.{EventLine}
-use Rattle.lw_transcript.specs.declared.lines.EventLine.TheVariants.{Frame, Stop}
+use Rattle.lw_events.specs.declared.event.Event.{Event}
+use Rattle.lw_events.specs.declared.event.Event.TheVariants.{Frame, Stop}
 use Rattle.lw_transcript.specs.declared.lines.CoreLine.{CoreLine}
 use Rattle.lw_transcript.specs.declared.lines.CallPart.{CallPart}
 use Rattle.lw_transcript.specs.declared.lines.ActorPart.{ActorPart}
@@ -19,14 +19,14 @@ pub IsCallText-stop : IsCallText (codes "stop")
 IsCallText-stop = record { words = codes "stop" ∷ []; some = omega arith; each = refl; spelled = refl }
 
 -- the core line of the end
-pub IsCore-stop : (line : CoreLine) → line.event ≡ Stop → line.outs ≡ [] → IsCore line
-IsCore-stop line e o = record { event = subst (λ (x : EventLine). IsEvent x) (sym e) tt; outs = rw o (All-nil IsFrame) }
+pub IsCore-stop : (line : CoreLine) → line.entry.event ≡ Stop → line.entry.frames ≡ [] → IsCore line
+IsCore-stop line e o = record { event = subst (λ (x : Event (List ℕ)). IsEvent x) (sym e) tt; frames = rw o (All-nil IsFrame) }
 
 -- the core line of a frame
-pub IsCore-frame : (line : CoreLine) (octets : List ℕ) → line.event ≡ Frame octets → length octets ≤ 65535
-    → All IsFrame line.outs → IsCore line
+pub IsCore-frame : (line : CoreLine) (octets : List ℕ) → line.entry.event ≡ Frame octets → length octets ≤ 65535
+    → All IsFrame line.entry.frames → IsCore line
 IsCore-frame line octets e short outs =
-    record { event = subst (λ (x : EventLine). IsEvent x) (sym e) short; outs = outs }
+    record { event = subst (λ (x : Event (List ℕ)). IsEvent x) (sym e) short; frames = outs }
 
 -- no core lines
 pub IsCore-nil : All IsCore []

@@ -1,15 +1,21 @@
 -- The lines of a transcript as texts, and which transcripts there are.
-use Rattle.std.specs.Prelude.{ℕ, ◌+◌, ◌^◌, ◌<◌, ◌≤◌, ◌≡◌, Bool, ◌&&◌, nat_lt, nat_le, IsTrue, List, [], ◌∷◌, ◌++◌, length, All, codes, decimal}
+use Rattle.std.specs.Prelude.{ℕ, ◌+◌, ◌/◌, ◌%◌, ◌^◌, ◌<◌, ◌≤◌, ◌≡◌, Bool, true, false, ◌&&◌, nat_lt, nat_le, IsTrue, List, [], ◌∷◌, ◌++◌, length, All, codes, decimal}
 use Rattle.std.specs.List.{flat_map, list_all, join_with_byte}
 use Rattle.hex.specs.Hex.{encode_lower}
+use Rattle.lw_base.specs.declared.addresses.Ip.{Ip}
+use Rattle.lw_events.specs.declared.event.Event.{Event}
+use Rattle.lw_events.specs.declared.event.Event.TheVariants.{Frame, Stop}
+use Rattle.lw_events.specs.declared.event.Reply.{Reply}
+use Rattle.lw_events.specs.declared.event.Reply.TheVariants.{Done}
+use Rattle.lw_events.specs.declared.entry.ItemText.{ItemText}
+use Rattle.lw_events.specs.declared.entry.ItemText.TheVariants.{Segment, Datagram, Accepted}
+use Rattle.lw_events.specs.declared.entry.Post.{Post}
+use Rattle.lw_events.specs.declared.entry.Post.TheVariants.{Item, Full}
+use Rattle.lw_events.specs.declared.entry.Entry.{Entry}
 use Rattle.lw_transcript.specs.declared.lines.Version.{Version}
 use Rattle.lw_transcript.specs.declared.lines.Version.TheVariants.{One}
 use Rattle.lw_transcript.specs.declared.lines.Kind.{Kind}
 use Rattle.lw_transcript.specs.declared.lines.Kind.TheVariants.{Serial}
-use Rattle.lw_transcript.specs.declared.lines.EventLine.{EventLine}
-use Rattle.lw_transcript.specs.declared.lines.EventLine.TheVariants.{Frame, Stop}
-use Rattle.lw_transcript.specs.declared.lines.ReplyLine.{ReplyLine}
-use Rattle.lw_transcript.specs.declared.lines.ReplyLine.TheVariants.{Ok as OkReply}
 use Rattle.lw_transcript.specs.declared.lines.CoreLine.{CoreLine}
 use Rattle.lw_transcript.specs.declared.lines.Evidence.{Evidence}
 use Rattle.lw_transcript.specs.declared.lines.Evidence.TheVariants.{At}
@@ -34,27 +40,52 @@ abbrev pub head_text : Version → Kind → List ℕ
 head_text version kind = codes "lwip " ++ version_text version ++ codes " " ++ kind_text kind ++ codes "\n"
 
 -- an event: `frame HEX` in lower case, where no octets leave the space, or `stop`
-abbrev pub event_text : EventLine → List ℕ
+abbrev pub event_text : Event (List ℕ) → List ℕ
 event_text (Frame octets) = codes "frame " ++ encode_lower octets
 event_text Stop = codes "stop"
 
 -- a reply: `ok`
-abbrev pub reply_text : ReplyLine → List ℕ
-reply_text OkReply = codes "ok"
+abbrev pub reply_text : Reply → List ℕ
+reply_text Done = codes "ok"
 
--- the line `core N ACTOR EVENT -> REPLY`
-abbrev pub core_text : CoreLine → List ℕ
-core_text line =
-    codes "core " ++ decimal line.number ++ codes " " ++ decimal line.actor ++ codes " " ++ event_text line.event
-    ++ codes " -> " ++ reply_text line.reply ++ codes "\n"
+-- the word behind the reply, where a pool was short
+abbrev pub short_text : Bool → List ℕ
+short_text true = codes " short"
+short_text false = []
+
+-- the line `core N ACTOR EVENT -> REPLY`, with ` short` behind it where a pool was short
+abbrev pub core_text : ℕ → Entry → List ℕ
+core_text number e =
+    codes "core " ++ decimal number ++ codes " " ++ decimal e.actor ++ codes " " ++ event_text e.event
+    ++ codes " -> " ++ reply_text e.reply ++ short_text e.short ++ codes "\n"
+
+-- an address as four decimal numbers with dots between, the highest octet first
+abbrev pub ip_text : Ip → List ℕ
+ip_text ip =
+    decimal (ip.0 / 2 ^ 24) ++ codes "." ++ decimal (ip.0 / 2 ^ 16 % 256) ++ codes "."
+    ++ decimal (ip.0 / 2 ^ 8 % 256) ++ codes "." ++ decimal (ip.0 % 256)
+
+-- what was posted: `segment LEN` or `datagram IP PORT LEN` with its number of octets, or `conn C` for a connection that was accepted
+abbrev pub item_text : ItemText → List ℕ
+item_text (Segment octets) = codes "segment " ++ decimal (length octets)
+item_text (Datagram ip port octets) =
+    codes "datagram " ++ ip_text ip ++ codes " " ++ decimal port.0 ++ codes " " ++ decimal (length octets)
+item_text (Accepted conn) = codes "conn " ++ decimal conn
+
+-- the line of a post to connection C: `post C TICKET ITEM`, or `full C` where its mailbox had no place
+abbrev pub post_text : Post → List ℕ
+post_text (Item conn ticket text) =
+    codes "post " ++ decimal conn ++ codes " " ++ decimal ticket ++ codes " " ++ item_text text ++ codes "\n"
+post_text (Full conn) = codes "full " ++ decimal conn ++ codes "\n"
 
 -- the line `out HEX` of a frame that was sent
 abbrev pub out_text : List ℕ → List ℕ
 out_text octets = codes "out " ++ encode_lower octets ++ codes "\n"
 
--- a core line with the frames that it sent, in the order in which they were sent
+-- a core line, then its posts and then the frames that it sent, each in its order
 abbrev pub core_lines : CoreLine → List ℕ
-core_lines line = core_text line ++ flat_map out_text line.outs
+core_lines line =
+    core_text line.number line.entry ++ flat_map post_text line.entry.posts ++ flat_map out_text line.entry.frames
 
 -- the line `@N`
 abbrev pub evidence_text : Evidence → List ℕ
@@ -107,14 +138,14 @@ abbrev pub IsFrame : List ℕ → Type 0
 IsFrame octets = length octets ≤ 65535
 
 -- a frame has at most 65,535 octets
-abbrev pub IsEvent : EventLine → Type 0
+abbrev pub IsEvent : Event (List ℕ) → Type 0
 IsEvent (Frame octets) = IsFrame octets
 IsEvent Stop = Unit {0}
 
 -- a core line whose frames, given and sent, have at most 65,535 octets
 pub record IsCore (line : CoreLine) : Type 0 where
-  pub event : IsEvent line.event
-  pub outs : All IsFrame line.outs
+  pub event : IsEvent line.entry.event
+  pub frames : All IsFrame line.entry.frames
 
 -- one or more octets of printable ASCII, without the space
 abbrev pub is_word : List ℕ → Bool

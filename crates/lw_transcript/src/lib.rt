@@ -4,12 +4,10 @@
 mod lines;
 mod page;
 mod spelling;
-#[cfg(test)]
-mod tests;
 
 pub use lines::{
     ActorPart, ActorPartList, Body, CallPart, CallPartList, CoreLine, CoreLineList, EndLine,
-    EventLine, Evidence, EvidenceList, Kind, Outcome, ReplyLine, Transcript, Version,
+    Evidence, EvidenceList, Kind, Outcome, Transcript, Version,
 };
-pub use spelling::print;
-pub use std::alloc::AllocError as NoMemory;
+pub use page::WriteFault;
+pub use spelling::write_transcript;

@@ -1,4 +1,5 @@
-use lw_base::{FrameList, Octets, Series};
+use lw_base::{Octets, Series};
+use lw_events::Entry;
 
 /// The version of the grammar.
 #[derive(Clone, Copy, Debug, PartialEq, Eq)]
@@ -12,28 +13,11 @@ pub enum Kind {
     Serial,
 }
 
-/// What the core was given: a frame of at most 65,535 octets, or the end.
-#[derive(Drop)]
-pub enum EventLine {
-    Frame(Octets),
-    Stop,
-}
-
-/// What the core answered.
-#[derive(Clone, Copy, Debug, PartialEq, Eq)]
-pub enum ReplyLine {
-    Ok,
-}
-
-/// One event of the core: its number, counted from 1, the actor that gave it, and the frames that it
-/// sent, each on a line of its own.
+/// One event of the core: its number, counted from 1, and its entry.
 #[derive(Drop)]
 pub struct CoreLine {
     pub number: u32,
-    pub actor: u32,
-    pub event: EventLine,
-    pub reply: ReplyLine,
-    pub outs: FrameList,
+    pub entry: Entry,
 }
 
 /// A list of core lines.

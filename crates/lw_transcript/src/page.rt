@@ -1,65 +1,166 @@
-ghost use Rattle.std.specs.Prelude.{◌≡◌, ◌++◌, OnErr, OnOk, decimal};
+ghost use Rattle.std.specs.Prelude.{◌≡◌, ◌+◌, ◌*◌, ◌<◌, ◌≤◌, ◌++◌, [], drop, false, length, IfOk, decimal, take};
 ghost use Rattle.hex.specs.Hex.{encode_lower};
+ghost use Rattle.lw_transcript.specs.Page.{Prints};
 
 use itoa::Buffer;
-use std::alloc::AllocError;
+use lw_outside::{Sink, write_all};
+use std::alloc::{AllocError, Global};
+use std::marker::Model;
 
-/// The octets that are printed so far. `short` says that memory was wanting: then nothing more is
-/// printed.
+/// Why a text was not written whole: there was no memory for the page, or a write failed.
+#[derive(Clone, Copy, Debug, PartialEq, Eq)]
+pub enum WriteFault {
+    NoMemory,
+    Failed,
+}
+
+/// How many octets a page has room for.
+const ROOM: usize = 65_536;
+
+/// Text on its way to a sink: it stands in one buffer, which the sink takes when it is full. Behind a
+/// write that failed nothing more is written.
+#[derive(Drop)]
 pub struct Page {
-    pub octets: Vec<u8>,
-    pub short: bool,
+    buffer: Vec<u8>,
+    filled: usize,
+    failed: bool,
+}
+
+impl Model for Page {
+    ghost use Rattle.std.specs.Prelude.{◌≡◌, ◌≤◌, length, take};
+    ghost use Rattle.lw_transcript.specs.Page.{PageSeen};
+
+    ghost Value = { PageSeen };
+
+    ghost view = { λ p. record { pending = take p.filled p.buffer.items; failed = p.failed } };
+
+    ghost invariant = { λ p. (length p.buffer.items ≡ 65536) × (p.filled ≤ 65536) };
 }
 
 impl Page {
-    ghost use Rattle.lw_transcript.specs.Page.{Prints};
-
-    /// Puts these octets behind what is there.
-    pub fn put(&mut self, octets: &[u8])
-        ensures { Prints self.old self.new octets.now }
+    /// An empty page.
+    pub fn new(alloc: Global) -> Result<Page, AllocError>
+        ensures { IfOk result (λ p. p ≡ record { pending = []; failed = false }) }
     {
-        if self.short {
+        let buffer = vec![in alloc; 0; ROOM]?;
+        Ok(Page {
+            buffer,
+            filled: 0,
+            failed: false,
+        })
+    }
+
+    /// Whether a write failed.
+    pub fn is_failed(&self) -> bool
+        ensures { result ≡ self.now.failed }
+    {
+        self.failed
+    }
+
+    /// Gives the sink what is pending.
+    pub fn flush<K: Sink>(&mut self, sink: &mut K)
+        ensures prints { Prints (K.seen sink.old) (K.seen sink.new) self.old self.new [] }
+        ensures empty { self.new.pending ≡ [] }
+    {
+        if self.failed {
+            self.filled = 0;
             return;
         }
-        self.short = self.octets.extend_from_slice(octets).is_err();
+        let (pending, _) = self.buffer.split_at(self.filled);
+        let written = write_all(sink, pending);
+        self.filled = 0;
+        self.failed = written.is_err();
     }
 
-    /// Puts a text.
-    pub fn text(&mut self, text: &str)
-        ensures { Prints self.old self.new text.now }
+    /// Makes room for two octets, and answers how many there is room for.
+    fn room<K: Sink>(&mut self, sink: &mut K) -> usize
+        ensures prints { Prints (K.seen sink.old) (K.seen sink.new) self.old self.new [] }
+        ensures some { 2 ≤ result }
+        ensures fits { length self.new.pending + result ≤ 65536 }
     {
-        self.put(text.as_bytes());
+        if ROOM - self.filled < 2 {
+            self.flush(sink);
+            return ROOM;
+        }
+        ROOM - self.filled
     }
 
-    /// Puts a number in decimal, without leading zeros.
-    pub fn number(&mut self, n: u64)
-        ensures { Prints self.old self.new (decimal n) }
+    fn add(&mut self, octets: &[u8])
+        requires { length self.old.pending + length octets.now ≤ 65536 }
+        ensures pending { self.new.pending ≡ self.old.pending ++ octets.now }
+        ensures failed { self.new.failed ≡ self.old.failed }
     {
-        let mut buffer = Buffer::new();
-        self.text(buffer.format(n));
+        place(&mut self.buffer, self.filled, octets);
+        self.filled += octets.len();
+    }
+
+    fn add_hex(&mut self, octets: &[u8])
+        requires { length self.old.pending + 2 * length octets.now ≤ 65536 }
+        ensures pending { self.new.pending ≡ self.old.pending ++ encode_lower octets.now }
+        ensures failed { self.new.failed ≡ self.old.failed }
+    {
+        place_hex(&mut self.buffer, self.filled, octets);
+        self.filled += 2 * octets.len();
+    }
+
+    /// Puts these octets.
+    pub fn put<K: Sink>(&mut self, sink: &mut K, octets: &[u8])
+        ensures { Prints (K.seen sink.old) (K.seen sink.new) self.old self.new octets.now }
+    {
+        let mut rest = octets;
+        while !rest.is_empty() {
+            let count = self.room(sink).min(rest.len());
+            let (piece, behind) = rest.split_at(count);
+            self.add(piece);
+            rest = behind;
+        }
     }
 
     /// Puts octets in hexadecimal, in lower case.
-    pub fn hex(&mut self, octets: &[u8])
-        ensures { Prints self.old self.new (encode_lower octets.now) }
+    pub fn hex<K: Sink>(&mut self, sink: &mut K, octets: &[u8])
+        ensures { Prints (K.seen sink.old) (K.seen sink.new) self.old self.new (encode_lower octets.now) }
     {
-        if self.short {
-            return;
+        let mut rest = octets;
+        while !rest.is_empty() {
+            let count = (self.room(sink) / 2).min(rest.len());
+            let (piece, behind) = rest.split_at(count);
+            self.add_hex(piece);
+            rest = behind;
         }
-        self.short = put_hex(octets, &mut self.octets).is_err();
+    }
+
+    /// Puts a text.
+    pub fn text<K: Sink>(&mut self, sink: &mut K, text: &str)
+        ensures { Prints (K.seen sink.old) (K.seen sink.new) self.old self.new text.now }
+    {
+        self.put(sink, text.as_bytes());
+    }
+
+    /// Puts a number in decimal, without leading zeros.
+    pub fn number<K: Sink>(&mut self, sink: &mut K, n: u64)
+        ensures { Prints (K.seen sink.old) (K.seen sink.new) self.old self.new (decimal n) }
+    {
+        let mut buffer = Buffer::new();
+        self.text(sink, buffer.format(n));
     }
 }
 
-/// Puts octets in hexadecimal behind a list, where there is memory.
-fn put_hex(octets: &[u8], out: &mut Vec<u8>) -> Result<(), AllocError>
-    ensures ok { OnOk result (out.new.items ≡ out.old.items ++ encode_lower octets.now) }
-    ensures err { OnErr result (out.new.items ≡ out.old.items) }
+/// Copies octets into a buffer, from this place on.
+fn place(buffer: &mut Vec<u8>, at: usize, octets: &[u8])
+    requires { at + length octets.now ≤ length buffer.old.items }
+    ensures { buffer.new.items ≡ take at buffer.old.items ++ octets.now ++ drop (length octets.now) (drop at buffer.old.items) }
 {
-    let front = out.len();
-    let twice = octets.len().checked_mul(2).ok_or(AllocError)?;
-    let whole = front.checked_add(twice).ok_or(AllocError)?;
-    out.resize(whole, 0)?;
-    let (_, digits) = out.split_at_mut(front);
+    let (_, free) = buffer.split_at_mut(at);
+    let (target, _) = free.split_at_mut(octets.len());
+    target.copy_from_slice(octets);
+}
+
+/// Puts octets in hexadecimal into a buffer, from this place on.
+fn place_hex(buffer: &mut Vec<u8>, at: usize, octets: &[u8])
+    requires { at + 2 * length octets.now ≤ length buffer.old.items }
+    ensures { buffer.new.items ≡ take at buffer.old.items ++ encode_lower octets.now ++ drop (2 * length octets.now) (drop at buffer.old.items) }
+{
+    let (_, free) = buffer.split_at_mut(at);
+    let (digits, _) = free.split_at_mut(2 * octets.len());
     hex::encode_to_slice(octets, digits).unwrap();
-    Ok(())
 }

@@ -1,14 +1,14 @@
 -- What the reader of ARP packets answers is spelled by the octets, and what is spelled is read.
-use Rattle.std.proofs.Common.{◌≡◌, ◌^◌, ◌<◌, ◌≤◌, ◌++◌, ◌==◌, ◌&&◌, inl, inr, Bool, true, false, ℕ, List, Ok, Err, IfOk, length, drop, nat_lt, if◌then◌else◌, refl, ap, arith, append_assoc, ltb-false, le-ltb, eqb-true, length-append}
+use Rattle.std.proofs.Common.{◌≡◌, ◌^◌, ◌<◌, ◌≤◌, ◌++◌, ◌==◌, ◌&&◌, inl, inr, Bool, true, false, ℕ, List, [], ◌∷◌, Ok, Err, IfOk, length, drop, slice_index_or, nat_lt, if◌then◌else◌, refl, ap, ◌∙◌, arith, append_assoc, ltb-false, le-ltb, eqb-true, length-append}
 use Rattle.std.proofs.lemmas.Bool.{and_parts, or_cases}
 use Rattle.std.proofs.lemmas.List.{drop_at}
 use Rattle.byteorder.specs.Endian.{big_bytes}
 use Rattle.lw_base.specs.declared.heads.ArpPacket.{ArpPacket}
 use Rattle.lw_wire.specs.declared.fault.WireFault.{WireFault}
 use Rattle.lw_wire.specs.declared.fault.WireFault.TheVariants.{Short, BadField}
-use Rattle.lw_wire.specs.Fields.{u8_at, u16_at}
-use Rattle.lw_wire.specs.Arp.{arp_fields, arp_of, arp_spelling, HasArpSpelling, is_arp_operation, is_ethernet_ipv4, IsArpOperation, SpellsArp}
-use Rattle.lw_wire.proofs.FieldsLaws.{AreOctets, length-part_at, number_at-fits, number_behind, number_first, part_behind, part_first, part_then, u8_then, u16_then, u32_then}
+use Rattle.lw_wire.specs.Fields.{AreOctets, u8_at, u16_at}
+use Rattle.lw_wire.specs.Arp.{arp_fields, arp_of, arp_spelling, HasArpSpelling, is_arp_operation, is_ethernet_ipv4, IsArpOperation, ReadsArp, SpellsArp}
+use Rattle.lw_wire.proofs.FieldsLaws.{length-part_at, number_at-fits, number_behind, number_first, part_behind, part_first, part_then, six_then, u8_then, u16_then, u32_then}
 
 -- the four fields that every packet has alike
 record KindFields (octets : List ℕ) : Type 0 where
@@ -114,11 +114,27 @@ pub arp-only : (octets : List ℕ) (p : ArpPacket) → SpellsArp octets p → ar
 arp-only octets p spells = arp-before octets p (drop 28 octets) spells.fits spells.spelled
 
 -- a packet has twenty-eight octets
-pub length-arp_spelling : (p : ArpPacket) → HasArpSpelling p → length (arp_spelling p) ≡ 28
+length-arp_spelling : (p : ArpPacket) → HasArpSpelling p → length (arp_spelling p) ≡ 28
 length-arp_spelling p fits = simp length-append (omega arith)
 
 -- a packet is read again, whatever stands behind it, from its place on
 pub arp-read_back : (p : ArpPacket) (body : List ℕ) → HasArpSpelling p
-    → (arp_of (arp_spelling p ++ body) ≡ Ok p) × (drop 28 (arp_spelling p ++ body) ≡ body)
+    → ReadsArp (arp_spelling p ++ body) p body
 arp-read_back p body fits =
     (arp-before _ p body fits refl, drop_at (arp_spelling p) body 28 (length-arp_spelling p fits))
+
+-- the octets of a packet, one by one
+pub arp-joined : (p : ArpPacket) (hardware protocol op sip tip : List ℕ) → length p.smac.0 ≡ 6 → length p.tmac.0 ≡ 6
+    → hardware ≡ big_bytes 2 1 → protocol ≡ big_bytes 2 0x0800 → op ≡ big_bytes 2 p.op → sip ≡ big_bytes 4 p.sip.0 → tip ≡ big_bytes 4 p.tip.0
+    → slice_index_or hardware 0 0 ∷ slice_index_or hardware 1 0 ∷ slice_index_or protocol 0 0 ∷ slice_index_or protocol 1 0 ∷ 6 ∷ 4 ∷ slice_index_or op 0 0 ∷ slice_index_or op 1 0
+    ∷ slice_index_or p.smac.0 0 0 ∷ slice_index_or p.smac.0 1 0 ∷ slice_index_or p.smac.0 2 0 ∷ slice_index_or p.smac.0 3 0 ∷ slice_index_or p.smac.0 4 0 ∷ slice_index_or p.smac.0 5 0
+    ∷ slice_index_or sip 0 0 ∷ slice_index_or sip 1 0 ∷ slice_index_or sip 2 0 ∷ slice_index_or sip 3 0
+    ∷ slice_index_or p.tmac.0 0 0 ∷ slice_index_or p.tmac.0 1 0 ∷ slice_index_or p.tmac.0 2 0 ∷ slice_index_or p.tmac.0 3 0 ∷ slice_index_or p.tmac.0 4 0 ∷ slice_index_or p.tmac.0 5 0
+    ∷ slice_index_or tip 0 0 ∷ slice_index_or tip 1 0 ∷ slice_index_or tip 2 0 ∷ slice_index_or tip 3 0 ∷ []
+    ≡ arp_spelling p
+arp-joined p hardware protocol op sip tip smac tmac hardware_is protocol_is op_is sip_is tip_is =
+    let last = six_then p.tmac.0 (big_bytes 4 p.tip.0) tmac in
+    let from_sip = ap (λ (r : List ℕ). big_bytes 4 p.sip.0 ++ r) last in
+    let from_smac = six_then p.smac.0 _ smac ∙ ap (λ (r : List ℕ). p.smac.0 ++ r) from_sip in
+    let whole = ap (λ (r : List ℕ). big_bytes 2 1 ++ big_bytes 2 0x0800 ++ big_bytes 1 6 ++ big_bytes 1 4 ++ big_bytes 2 p.op ++ r) from_smac in
+    rw (hardware_is, protocol_is, op_is, sip_is, tip_is) (simp append_assoc whole)

@@ -4,7 +4,7 @@ use Rattle.std.proofs.Math.Nat.{mod-lt}
 use Rattle.std.specs.Int.{byte_at}
 use Rattle.byteorder.specs.Endian.{big_bytes}
 use Rattle.lw_wire.specs.Checksum.{folded, internet_sum, ones_add, ones_sum, word_sum}
-use Rattle.lw_wire.proofs.FieldsLaws.{AreOctets}
+use Rattle.lw_wire.specs.Fields.{AreOctets}
 
 -- in one line
 folded-is : (n : ℕ) → folded n ≡ (n - 1) % 65535 + min n 1
@@ -58,16 +58,6 @@ sum_folds (a ∷ b ∷ rest) small =
 pub sum_fits : (octets : List ℕ) → AreOctets octets → ones_sum octets < 65536
 sum_fits octets small = rw (sum_folds octets small) (folded-fits (word_sum octets))
 
-pub internet_sum-fits : (octets : List ℕ) → internet_sum octets < 65536
-internet_sum-fits octets = omega arith
-
--- the sum of all octets is 0 exactly where the plain sum is
-pub sum_zero : (octets : List ℕ) → AreOctets octets → (ones_sum octets ≡ 0) ↔ (word_sum octets ≡ 0)
-sum_zero octets small =
-    let folds = sum_folds octets small in
-    let is = folded-is (word_sum octets) in
-    (λ h. omega arith, λ h. omega arith)
-
 -- the words of two lists, the first of which ends with a whole word
 pub word_sum-append : (xs ys : List ℕ) → length xs % 2 ≡ 0 → word_sum (xs ++ ys) ≡ word_sum xs + word_sum ys
 unfolding word_sum
@@ -119,10 +109,6 @@ word_between x front back small even =
 octets_round : (x : ℕ) (front back : List ℕ) → AreOctets front → AreOctets back → AreOctets (front ++ big_bytes 2 x ++ back)
 octets_round x front back before behind =
     octets_append (front ++ big_bytes 2 x) back (octets_append front (big_bytes 2 x) before (octets_bytes 2 x)) behind
-
--- a word's octets swapped
-folded-swapped : (s h l : ℕ) → s ≡ 256 * h + l → folded (256 * s) ≡ folded (256 * l + h)
-folded-swapped s h l is = folded-same (256 * s) (256 * l + h) 0 h (omega arith) (λ z. omega arith) (λ z. omega arith)
 
 -- what folds alike does so by 256 times as much
 pub folded-times : (a b : ℕ) → folded a ≡ folded b → folded (256 * a) ≡ folded (256 * b)

@@ -9,7 +9,7 @@ use Rattle.byteorder.specs.Endian.{little_from}
 use Rattle.byteorder.specs.Numbers.{little_from-cons}
 use Rattle.lw_wire.specs.Checksum.{folded, ones_sum, word_sum}
 use Rattle.lw_wire.proofs.ChecksumLaws.{folded-fits, folded-more, folded-same, folded-small, folded-times, folded-twice, sum_folds, word_sum-append}
-use Rattle.lw_wire.proofs.FieldsLaws.{AreOctets}
+use Rattle.lw_wire.specs.Fields.{AreOctets}
 
 -- octets as one number, the lowest first
 little_folds : (n : ℕ) (xs : List ℕ) → length xs ≡ n → folded (256 * little_from 0 n xs) ≡ folded (word_sum xs)

@@ -1,12 +1,13 @@
 -- What the reader of Ethernet heads answers is spelled by the octets, and what is spelled is read.
-use Rattle.std.proofs.Common.{◌≡◌, ◌≤◌, ◌++◌, Bool, true, false, ℕ, List, Ok, Err, IfOk, length, drop, nat_lt, if◌then◌else◌, refl, sym, ap, ◌∙◌, arith, append_assoc, ltb-false, le-ltb, length-append}
+use Rattle.std.proofs.Common.{◌≡◌, ◌≤◌, ◌++◌, Bool, true, false, ℕ, List, [], ◌∷◌, Ok, Err, IfOk, length, drop, slice_index_or, nat_lt, if◌then◌else◌, refl, sym, ap, ◌∙◌, arith, append_assoc, ltb-false, le-ltb, length-append}
 use Rattle.std.proofs.lemmas.List.{drop_at}
 use Rattle.byteorder.specs.Endian.{big_bytes}
 use Rattle.lw_base.specs.declared.heads.EthHead.{EthHead}
 use Rattle.lw_wire.specs.declared.fault.WireFault.{WireFault}
 use Rattle.lw_wire.specs.declared.fault.WireFault.TheVariants.{Short}
-use Rattle.lw_wire.specs.Eth.{eth_fields, eth_of, eth_spelling, HasEthSpelling, SpellsEth}
-use Rattle.lw_wire.proofs.FieldsLaws.{AreOctets, length-part_at, number_at-fits, number_first, part_behind, part_first, part_then, u16_then}
+use Rattle.lw_wire.specs.Eth.{eth_fields, eth_of, eth_spelling, HasEthSpelling, ReadsEth, SpellsEth}
+use Rattle.lw_wire.specs.Fields.{AreOctets}
+use Rattle.lw_wire.proofs.FieldsLaws.{length-part_at, number_at-fits, number_first, part_behind, part_first, part_then, six_then, u16_then}
 
 -- the fields that fourteen octets have make up these octets
 eth_spelled : (octets : List ℕ) → AreOctets octets → 14 ≤ length octets
@@ -61,6 +62,16 @@ length-eth_spelling h fits = simp length-append (omega arith)
 
 -- a head is read again from in front of its data, which begins at the place that is answered
 pub eth-read_back : (h : EthHead) (body : List ℕ) → HasEthSpelling h
-    → (eth_of (eth_spelling h ++ body) ≡ Ok (h, 14)) × (drop 14 (eth_spelling h ++ body) ≡ body)
+    → ReadsEth (eth_spelling h ++ body) h body
 eth-read_back h body fits =
     (eth-before _ h body fits refl, drop_at (eth_spelling h) body 14 (length-eth_spelling h fits))
+
+-- the octets of a head, one by one
+pub eth-joined : (h : EthHead) (ethertype : List ℕ) → length h.dst.0 ≡ 6 → length h.src.0 ≡ 6 → ethertype ≡ big_bytes 2 h.ethertype
+    → slice_index_or h.dst.0 0 0 ∷ slice_index_or h.dst.0 1 0 ∷ slice_index_or h.dst.0 2 0 ∷ slice_index_or h.dst.0 3 0 ∷ slice_index_or h.dst.0 4 0 ∷ slice_index_or h.dst.0 5 0
+    ∷ slice_index_or h.src.0 0 0 ∷ slice_index_or h.src.0 1 0 ∷ slice_index_or h.src.0 2 0 ∷ slice_index_or h.src.0 3 0 ∷ slice_index_or h.src.0 4 0 ∷ slice_index_or h.src.0 5 0
+    ∷ slice_index_or ethertype 0 0 ∷ slice_index_or ethertype 1 0 ∷ []
+    ≡ eth_spelling h
+eth-joined h ethertype dst src is =
+    rw is (simp append_assoc
+    (six_then h.dst.0 _ dst ∙ ap (λ (r : List ℕ). h.dst.0 ++ r) (six_then h.src.0 (big_bytes 2 h.ethertype) src)))

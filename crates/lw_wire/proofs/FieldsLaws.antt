@@ -3,15 +3,12 @@
 -- (`part_behind`, `number_behind`). The other way, what stands from a place is the field that is read
 -- there and then what stands behind it (`part_then`, `u8_then`, `u16_then`, `u32_then`). So a law on a
 -- head goes through its fields, each from where the last one ended.
-use Rattle.std.proofs.Common.{◌≡◌, ◌+◌, ◌*◌, ◌^◌, ◌/◌, ◌%◌, ◌<◌, ◌≤◌, ◌++◌, ◌∷◌, [], ℕ, List, length, take, drop, slice_index, refl, sym, ap, ◌∙◌, arith}
+use Rattle.std.proofs.Common.{◌≡◌, ◌+◌, ◌*◌, ◌^◌, ◌/◌, ◌%◌, ◌<◌, ◌≤◌, ◌++◌, ◌∷◌, [], ℕ, List, Result, OnOk, length, take, drop, slice_index_or, refl, sym, ap, subst, ◌∙◌, arith}
 use Rattle.std.proofs.lemmas.List.{take_at, drop_at, take-append-drop, drop-drop, get_or-drop, length-drop, length-take-le}
+use Rattle.std.proofs.lemmas.Result.{on_ok_weaker}
 use Rattle.byteorder.specs.Endian.{big_bytes, big_number}
 use Rattle.byteorder.specs.Numbers.{big_from-lt, big_number-reads_back, length-bytes_high_first}
-use Rattle.lw_wire.specs.Fields.{number_at, part_at, u8_at, u16_at, u32_at}
-
--- each item of the list is an octet
-abbrev pub AreOctets : List ℕ → Type 0
-AreOctets octets = (i : ℕ) → slice_index octets i < 256
+use Rattle.lw_wire.specs.Fields.{AreOctets, number_at, part_at, u8_at, u16_at, u32_at}
 
 -- a part is read where it stands
 pub part_first : (place n : ℕ) (octets part rest : List ℕ) → drop place octets ≡ part ++ rest → length part ≡ n
@@ -80,7 +77,7 @@ u32_whole (a ∷ b ∷ c ∷ d ∷ xs) small len =
     rw (top, high, low, bottom) refl
 
 -- octets from a place on are octets
-octets_from : (place : ℕ) (octets : List ℕ) → AreOctets octets → AreOctets (drop place octets)
+pub octets_from : (place : ℕ) (octets : List ℕ) → AreOctets octets → AreOctets (drop place octets)
 octets_from place octets small i = rw get_or-drop (small (place + i))
 
 -- what stands from a place is the number there, and then what stands behind it
@@ -118,3 +115,21 @@ pub u32_then : (place x : ℕ) (octets behind : List ℕ) → AreOctets octets �
 u32_then place x octets behind small len is next =
     let here = u32_whole (drop place octets) (octets_from place octets small) (omega (arith, length-drop place octets)) in
     number_then place 4 x octets behind here is next
+
+-- six items, one by one, in front of others
+pub six_then : (xs rest : List ℕ) → length xs ≡ 6
+    → slice_index_or xs 0 0 ∷ slice_index_or xs 1 0 ∷ slice_index_or xs 2 0 ∷ slice_index_or xs 3 0 ∷ slice_index_or xs 4 0 ∷ slice_index_or xs 5 0 ∷ rest ≡ xs ++ rest
+six_then [] rest len = absurd (omega arith)
+six_then (a ∷ []) rest len = absurd (omega arith)
+six_then (a ∷ b ∷ []) rest len = absurd (omega arith)
+six_then (a ∷ b ∷ c ∷ []) rest len = absurd (omega arith)
+six_then (a ∷ b ∷ c ∷ d ∷ []) rest len = absurd (omega arith)
+six_then (a ∷ b ∷ c ∷ d ∷ e ∷ []) rest len = absurd (omega arith)
+six_then (a ∷ b ∷ c ∷ d ∷ e ∷ f ∷ []) rest len = refl
+six_then (a ∷ b ∷ c ∷ d ∷ e ∷ f ∷ g ∷ xs) rest len = absurd (omega arith)
+
+-- what holds of the octets that were added holds of what stands behind the old ones
+pub added : {E : Type 0} (P : List ℕ → Type 0) (r : Result (Unit {0}) E) (old new more : List ℕ)
+    → OnOk r (new ≡ old ++ more) → P more → OnOk r (P (drop (length old) new))
+added P r old new more ok holds =
+    on_ok_weaker r (λ is. subst P (sym (ap (drop (length old)) is ∙ drop_at old more (length old) refl)) holds) ok

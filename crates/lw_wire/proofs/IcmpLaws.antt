@@ -1,14 +1,14 @@
 -- What the reader of ICMP heads answers is spelled by the octets, and what is spelled is read.
-use Rattle.std.proofs.Common.{◌≡◌, ◌+◌, ◌++◌, ◌∷◌, [], Bool, true, false, ℕ, List, Ok, Err, IfOk, length, drop, not, nat_lt, if◌then◌else◌, refl, sym, arith, ltb-false, le-ltb}
+use Rattle.std.proofs.Common.{◌≡◌, ◌+◌, ◌++◌, ◌∷◌, [], Bool, true, false, ℕ, List, Ok, Err, IfOk, length, not, nat_lt, if◌then◌else◌, refl, sym, arith, ltb-false, le-ltb}
 use Rattle.byteorder.specs.Endian.{big_bytes}
 use Rattle.lw_base.specs.declared.heads.IcmpHead.{IcmpHead}
 use Rattle.lw_wire.specs.declared.fault.WireFault.{WireFault}
 use Rattle.lw_wire.specs.declared.fault.WireFault.TheVariants.{Short, BadSum}
 use Rattle.lw_wire.specs.Checksum.{internet_sum}
-use Rattle.lw_wire.specs.Fields.{u8_at, u32_at}
+use Rattle.lw_wire.specs.Fields.{AreOctets, u8_at, u32_at}
 use Rattle.lw_wire.specs.Sums.{has_right_sum, HasRightSum}
-use Rattle.lw_wire.specs.Icmp.{icmp_fields, icmp_of, icmp_spelling, icmp_with_sum, HasIcmpSpelling, SpellsIcmp}
-use Rattle.lw_wire.proofs.FieldsLaws.{AreOctets, number_first}
+use Rattle.lw_wire.specs.Icmp.{icmp_fields, icmp_of, icmp_spelling, icmp_with_sum, HasIcmpSpelling, ReadsIcmp, SpellsIcmp}
+use Rattle.lw_wire.proofs.FieldsLaws.{number_first}
 use Rattle.lw_wire.proofs.ChecksumLaws.{octets_append, octets_bytes, sum_in_place}
 use Rattle.lw_wire.proofs.SumsLaws.{octets_cons, right-by_test, test-right}
 
@@ -64,7 +64,7 @@ icmp-right h body fits small =
     refl
 
 -- a message spells its head, behind which its data stands
-pub icmp-spelled : (h : IcmpHead) (body : List ℕ) → HasIcmpSpelling h → AreOctets body → SpellsIcmp (icmp_spelling h body) h 8
+icmp-spelled : (h : IcmpHead) (body : List ℕ) → HasIcmpSpelling h → AreOctets body → SpellsIcmp (icmp_spelling h body) h 8
 unfolding icmp_spelling
 icmp-spelled h body fits small = record {
   head = omega (arith, length-icmp_spelling h body);
@@ -75,7 +75,13 @@ icmp-spelled h body fits small = record {
 
 -- a message is read again, and its data stands at the place that is answered
 pub icmp-read_back : (h : IcmpHead) (body : List ℕ) → HasIcmpSpelling h → AreOctets body
-    → (icmp_of (icmp_spelling h body) ≡ Ok (h, 8)) × (drop 8 (icmp_spelling h body) ≡ body)
+    → ReadsIcmp (icmp_spelling h body) h body
 unfolding icmp_spelling
 icmp-read_back h body fits small =
     (icmp-only (icmp_spelling h body) h 8 (icmp-spelled h body fits small), refl)
+
+-- the octets of a message are those of its head with its sum, and then its data
+pub icmp-joined : (h : IcmpHead) (body front : List ℕ) (sum : ℕ) → front ≡ icmp_with_sum sum h → sum ≡ internet_sum (icmp_with_sum 0 h ++ body)
+    → front ++ body ≡ icmp_spelling h body
+unfolding icmp_spelling
+icmp-joined h body front sum is sum_is = rw (is, sum_is) refl

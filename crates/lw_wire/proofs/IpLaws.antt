@@ -8,10 +8,10 @@ use Rattle.lw_base.specs.declared.heads.IpHead.{IpHead}
 use Rattle.lw_wire.specs.declared.fault.WireFault.{WireFault}
 use Rattle.lw_wire.specs.declared.fault.WireFault.TheVariants.{Short, BadField, BadSum}
 use Rattle.lw_wire.specs.Checksum.{internet_sum}
-use Rattle.lw_wire.specs.Fields.{part_at, u8_at, u16_at, u32_at}
+use Rattle.lw_wire.specs.Fields.{AreOctets, u8_at, u16_at, u32_at}
 use Rattle.lw_wire.specs.Sums.{has_right_sum, HasRightSum}
-use Rattle.lw_wire.specs.Ip.{flags_and_offset, ip_fields, ip_of, ip_spelling, ip_with_sum, is_ip, HasIpSpelling, SpellsIp}
-use Rattle.lw_wire.proofs.FieldsLaws.{AreOctets, number_first}
+use Rattle.lw_wire.specs.Ip.{flags_and_offset, ip_fields, ip_of, ip_spelling, ip_with_sum, is_ip, FitsIp, HasIpSpelling, ReadsIp, SpellsIp}
+use Rattle.lw_wire.proofs.FieldsLaws.{number_first}
 use Rattle.lw_wire.proofs.ChecksumLaws.{octets_append, octets_bytes, sum_in_place}
 use Rattle.lw_wire.proofs.SumsLaws.{octets_cons, octets_take, right-by_test, test-right}
 
@@ -85,11 +85,6 @@ ip-only octets h place spells =
     ∙ ap (λ (n : ℕ). Ok (ip_fields octets, n)) (sym here.behind)
     ∙ ap (λ (x : IpHead). Ok (x, place)) (sym spells.fields)
 
--- a header without options has twenty octets
-pub length-ip_spelling : (h : IpHead) → length (ip_spelling h) ≡ 20
-unfolding ip_spelling
-length-ip_spelling h = refl
-
 -- two flags and thirteen bits are read again
 flags-df : (df mf : Bool) (units : ℕ) → units < 2 ^ 13 → (bit_at (from_bool df * 2 ^ 14 + from_bool mf * 2 ^ 13 + units) 14 == 1) ≡ df
 flags-df true true units small = eq-eqb _ _ (omega arith)
@@ -116,11 +111,11 @@ flags-fit false true units small = omega arith
 flags-fit false false units small = omega arith
 
 -- the fields of a header are those that were written
-ip-fields : (h : IpHead) (n sum : ℕ) (rest : List ℕ) → HasIpSpelling h n → h ≡ ip_fields (ip_with_sum sum h ++ rest)
-ip-fields h n sum rest fits =
+ip-fields : (h : IpHead) (n sum : ℕ) (rest : List ℕ) → FitsIp h n → HasIpSpelling h → h ≡ ip_fields (ip_with_sum sum h ++ rest)
+ip-fields h n sum rest counts fits =
     let octets : List ℕ = ip_with_sum sum h ++ rest in
-    let units : h.offset / 8 < 2 ^ 13 = let most = fits.fits.offset in omega arith in
-    let head_len : 4 * (u8_at 0 octets % 2 ^ 4) ≡ h.head_len = sym fits.fits.head_len in
+    let units : h.offset / 8 < 2 ^ 13 = let most = counts.offset in omega arith in
+    let head_len : 4 * (u8_at 0 octets % 2 ^ 4) ≡ h.head_len = sym counts.head_len in
     let tos : u8_at 1 octets ≡ h.tos = omega arith in
     let total : u16_at 2 octets ≡ h.total = number_first 2 2 h.total octets (drop 4 octets) refl fits.total in
     let id : u16_at 4 octets ≡ h.id = number_first 4 2 h.id octets (drop 6 octets) refl fits.id in
@@ -128,7 +123,7 @@ ip-fields h n sum rest fits =
     let df = flags-df h.df h.mf (h.offset / 8) units in
     let mf = flags-mf h.df h.mf (h.offset / 8) units in
     let offset : 8 * (flags_and_offset h % 2 ^ 13) ≡ h.offset =
-    let whole = flags-units h.df h.mf (h.offset / 8) units in let eighths = fits.fits.units in omega arith in
+    let whole = flags-units h.df h.mf (h.offset / 8) units in let eighths = counts.units in omega arith in
     let ttl : u8_at 8 octets ≡ h.ttl = omega arith in
     let proto : u8_at 9 octets ≡ h.proto = omega arith in
     let src : u32_at 12 octets ≡ h.src.0 = number_first 12 4 h.src.0 octets (drop 16 octets) refl fits.src in
@@ -136,9 +131,9 @@ ip-fields h n sum rest fits =
     rw (head_len, tos, total, id, flags, df, mf, offset, ttl, proto, src, dst) refl
 
 -- the sum of a header is right
-ip-right : (h : IpHead) (n : ℕ) → HasIpSpelling h n → HasRightSum (ip_spelling h)
+ip-right : (h : IpHead) → HasIpSpelling h → HasRightSum (ip_spelling h)
 unfolding ip_spelling
-ip-right h n fits =
+ip-right h fits =
     let words : List ℕ = big_bytes 2 h.id ++ big_bytes 2 (flags_and_offset h) in
     let front = octets_cons 0x45 (h.tos ∷ big_bytes 2 h.total) (omega arith) (octets_cons h.tos (big_bytes 2 h.total) fits.tos (octets_bytes 2 h.total)) in
     let middle = octets_append (big_bytes 2 h.id) (big_bytes 2 (flags_and_offset h)) (octets_bytes 2 h.id) (octets_bytes 2 (flags_and_offset h)) in
@@ -149,24 +144,30 @@ ip-right h n fits =
     addresses refl
 
 -- a packet spells its header, behind which its data stands, whatever stands behind the packet
-pub ip-spelled : (h : IpHead) (body padding : List ℕ) → HasIpSpelling h (length body) → SpellsIp (ip_spelling h ++ body ++ padding) h 20
+ip-spelled : (h : IpHead) (body padding : List ℕ) → FitsIp h (length body) → HasIpSpelling h → SpellsIp (ip_spelling h ++ body ++ padding) h 20
 unfolding ip_spelling
-ip-spelled h body padding fits =
-    let head_len = fits.fits.head_len in
-    let total = fits.fits.total in
+ip-spelled h body padding counts fits =
+    let head_len = counts.head_len in
+    let total = counts.total in
     record {
       version = refl;
-      fields = ip-fields h (length body) (internet_sum (ip_with_sum 0 h)) (body ++ padding) fits;
+      fields = ip-fields h (length body) (internet_sum (ip_with_sum 0 h)) (body ++ padding) counts fits;
       behind = sym head_len;
       words = omega arith;
       header = omega arith;
       total = omega (arith, length-append body padding);
-      sum = rw head_len (ip-right h (length body) fits);
+      sum = rw head_len (ip-right h fits);
     }
 
 -- a packet is read again, whatever stands behind it, and its data stands at the place that is answered
-pub ip-read_back : (h : IpHead) (body padding : List ℕ) → HasIpSpelling h (length body)
-    → (ip_of (ip_spelling h ++ body ++ padding) ≡ Ok (h, 20)) × (part_at 20 (length body) (ip_spelling h ++ body ++ padding) ≡ body)
+pub ip-read_back : (h : IpHead) (body padding : List ℕ) → FitsIp h (length body) → HasIpSpelling h
+    → ReadsIp (ip_spelling h ++ body ++ padding) h body
 unfolding ip_spelling
-ip-read_back h body padding fits =
-    (ip-only (ip_spelling h ++ body ++ padding) h 20 (ip-spelled h body padding fits), take_at body padding (length body) refl)
+ip-read_back h body padding counts fits =
+    (ip-only (ip_spelling h ++ body ++ padding) h 20 (ip-spelled h body padding counts fits), take_at body padding (length body) refl)
+
+-- the octets of a header are those with its sum, which is taken over those with 0
+pub ip-joined : (h : IpHead) (zeros front : List ℕ) (sum : ℕ) → zeros ≡ ip_with_sum 0 h → front ≡ ip_with_sum sum h → sum ≡ internet_sum (zeros ++ [])
+    → front ≡ ip_spelling h
+unfolding ip_spelling
+ip-joined h zeros front sum zeros_is is sum_is = rw (is, sum_is, zeros_is) refl

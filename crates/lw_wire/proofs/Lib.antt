@@ -1,11 +1,9 @@
 pub mod ArpLaws
 pub mod ChecksumLaws
-pub mod ChecksumRows
 pub mod ChecksumWords
 pub mod EthLaws
 pub mod FieldsLaws
 pub mod IcmpLaws
 pub mod IpLaws
-pub mod Rows
 pub mod SumsLaws
 pub mod UdpLaws

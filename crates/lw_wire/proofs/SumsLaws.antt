@@ -4,7 +4,7 @@ use Rattle.byteorder.specs.Endian.{big_bytes}
 use Rattle.lw_wire.specs.Checksum.{internet_sum, ones_sum}
 use Rattle.lw_wire.specs.Sums.{has_right_sum, HasRightSum}
 use Rattle.lw_wire.specs.Udp.{sent_sum}
-use Rattle.lw_wire.proofs.FieldsLaws.{AreOctets}
+use Rattle.lw_wire.specs.Fields.{AreOctets}
 use Rattle.lw_wire.proofs.ChecksumLaws.{octets_append, octets_bytes, sum_append, sum_fits, sum_in_place, sum_right}
 
 -- an octet in front of octets

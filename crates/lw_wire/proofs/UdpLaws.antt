@@ -8,10 +8,10 @@ use Rattle.lw_base.specs.declared.addresses.Ip.{Ip}
 use Rattle.lw_base.specs.declared.heads.UdpHead.{UdpHead}
 use Rattle.lw_wire.specs.declared.fault.WireFault.{WireFault}
 use Rattle.lw_wire.specs.declared.fault.WireFault.TheVariants.{Short, BadField, BadSum}
-use Rattle.lw_wire.specs.Fields.{part_at, u16_at}
+use Rattle.lw_wire.specs.Fields.{AreOctets, u16_at}
 use Rattle.lw_wire.specs.Sums.{has_right_sum, HasRightSum, pseudo_head}
-use Rattle.lw_wire.specs.Udp.{has_udp_sum, HasUdpSpelling, HasUdpSum, SpellsUdp, udp_fields, udp_of, udp_protocol, udp_spelling, udp_sum, udp_with_sum}
-use Rattle.lw_wire.proofs.FieldsLaws.{AreOctets, number_first}
+use Rattle.lw_wire.specs.Udp.{has_udp_sum, HasUdpSpelling, HasUdpSum, ReadsUdp, SpellsUdp, udp_fields, udp_of, udp_protocol, udp_spelling, udp_sum, udp_with_sum}
+use Rattle.lw_wire.proofs.FieldsLaws.{number_first}
 use Rattle.lw_wire.proofs.ChecksumLaws.{octets_append, octets_bytes}
 use Rattle.lw_wire.proofs.SumsLaws.{octets_cons, octets_take, right-by_test, sent_in_place, test-right}
 
@@ -94,13 +94,13 @@ udp-only octets src dst h place spells =
     udp-only_fields octets src dst place here ∙ ap (λ (x : UdpHead). Ok (x, place)) (sym spells.fields)
 
 -- a datagram is as long as its head and its data
-pub length-udp_spelling : (h : UdpHead) (src dst : Ip) (body : List ℕ) → length (udp_spelling h src dst body) ≡ 8 + length body
+length-udp_spelling : (h : UdpHead) (src dst : Ip) (body : List ℕ) → length (udp_spelling h src dst body) ≡ 8 + length body
 unfolding udp_spelling
 length-udp_spelling h src dst body = omega arith
 
 -- the fields of a datagram are those that were written
-udp-fields : (h : UdpHead) (src dst : Ip) (n sum : ℕ) (rest : List ℕ) → HasUdpSpelling h src dst n → h ≡ udp_fields (udp_with_sum sum h ++ rest)
-udp-fields h src dst n sum rest fits =
+udp-fields : (h : UdpHead) (sum : ℕ) (rest : List ℕ) → HasUdpSpelling h → h ≡ udp_fields (udp_with_sum sum h ++ rest)
+udp-fields h sum rest fits =
     let octets : List ℕ = udp_with_sum sum h ++ rest in
     let sport : u16_at 0 octets ≡ h.sport.0 = number_first 0 2 h.sport.0 octets (drop 2 octets) refl fits.sport in
     let dport : u16_at 2 octets ≡ h.dport.0 = number_first 2 2 h.dport.0 octets (drop 4 octets) refl fits.dport in
@@ -120,14 +120,13 @@ udp-right h src dst body small =
     small refl
 
 -- a datagram spells its head, behind which its data stands, whatever stands behind the datagram
-pub udp-spelled : (h : UdpHead) (src dst : Ip) (body padding : List ℕ) → HasUdpSpelling h src dst (length body) → AreOctets body
+udp-spelled : (h : UdpHead) (src dst : Ip) (body padding : List ℕ) → h.total ≡ 8 + length body → HasUdpSpelling h → AreOctets body
     → SpellsUdp (udp_spelling h src dst body ++ padding) src dst h 8
 unfolding udp_spelling
-udp-spelled h src dst body padding fits small =
-    let counts = fits.counts in
+udp-spelled h src dst body padding counts fits small =
     let datagram : take h.total (udp_spelling h src dst body ++ padding) ≡ udp_spelling h src dst body = take_at (udp_spelling h src dst body) padding h.total (length-udp_spelling h src dst body ∙ sym counts) in
     record {
-      fields = udp-fields h src dst (length body) (udp_sum h src dst body) (body ++ padding) fits;
+      fields = udp-fields h (udp_sum h src dst body) (body ++ padding) fits;
       behind = refl;
       head = omega arith;
       total = omega (arith, length-append body padding);
@@ -135,9 +134,14 @@ udp-spelled h src dst body padding fits small =
     }
 
 -- a datagram is read again, whatever stands behind it, and its data stands at the place that is answered
-pub udp-read_back : (h : UdpHead) (src dst : Ip) (body padding : List ℕ) → HasUdpSpelling h src dst (length body) → AreOctets body
-    → (udp_of (udp_spelling h src dst body ++ padding) src dst ≡ Ok (h, 8))
-    × (part_at 8 (length body) (udp_spelling h src dst body ++ padding) ≡ body)
+pub udp-read_back : (h : UdpHead) (src dst : Ip) (body padding : List ℕ) → h.total ≡ 8 + length body → HasUdpSpelling h → AreOctets body
+    → ReadsUdp (udp_spelling h src dst body ++ padding) src dst h body
 unfolding udp_spelling
-udp-read_back h src dst body padding fits small =
-    (udp-only (udp_spelling h src dst body ++ padding) src dst h 8 (udp-spelled h src dst body padding fits small), take_at body padding (length body) refl)
+udp-read_back h src dst body padding counts fits small =
+    (udp-only (udp_spelling h src dst body ++ padding) src dst h 8 (udp-spelled h src dst body padding counts fits small), take_at body padding (length body) refl)
+
+-- the octets of a datagram are those of its head with its sum, and then its data
+pub udp-joined : (h : UdpHead) (src dst : Ip) (body front : List ℕ) (sum : ℕ) → front ≡ udp_with_sum sum h → sum ≡ udp_sum h src dst body
+    → front ++ body ≡ udp_spelling h src dst body
+unfolding udp_spelling
+udp-joined h src dst body front sum is sum_is = rw (is, sum_is) refl

@@ -53,3 +53,7 @@ arp_of octets =
     if nat_lt (length octets) 28
     then Err Short
     else (if is_ethernet_ipv4 octets && is_arp_operation (u16_at 6 octets) then Ok (arp_fields octets) else Err BadField)
+
+-- the packet is read from the octets, and these octets stand behind it
+abbrev pub ReadsArp : List ℕ → ArpPacket → List ℕ → Type 0
+ReadsArp octets p behind = (arp_of octets ≡ Ok p) × (drop 28 octets ≡ behind)

@@ -31,3 +31,7 @@ eth_of octets =
     if nat_lt (length octets) 14
     then Err Short
     else Ok (eth_fields octets, 14)
+
+-- the head is read from the octets, and this data stands behind it
+abbrev pub ReadsEth : List ℕ → EthHead → List ℕ → Type 0
+ReadsEth octets h body = (eth_of octets ≡ Ok (h, 14)) × (drop 14 octets ≡ body)

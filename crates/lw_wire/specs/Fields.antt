@@ -1,9 +1,13 @@
 -- The fields of a head. Numbers stand with their highest octet first (RFC 791, appendix B).
-use Rattle.std.specs.Prelude.{ℕ, List, take, drop}
+use Rattle.std.specs.Prelude.{◌<◌, ℕ, List, take, drop, slice_index}
 use Rattle.byteorder.specs.Endian.{big_number}
 use Rattle.lw_base.specs.declared.addresses.Mac.{Mac}
 use Rattle.lw_base.specs.declared.addresses.Ip.{Ip}
 use Rattle.lw_base.specs.declared.addresses.Port.{Port}
+
+-- each item of the list is an octet: so it is with each slice of octets in the code
+abbrev pub AreOctets : List ℕ → Type 0
+AreOctets octets = (i : ℕ) → slice_index octets i < 256
 
 -- the n octets from a place
 abbrev pub part_at : ℕ → ℕ → List ℕ → List ℕ

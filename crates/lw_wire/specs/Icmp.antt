@@ -1,5 +1,5 @@
 -- The head of an ICMP message (RFC 792), whose sum covers the whole message.
-use Rattle.std.specs.Prelude.{◌≡◌, ◌^◌, ◌<◌, ◌≤◌, ◌++◌, ◌∷◌, ℕ, List, not, Result, Ok, Err, length, nat_lt, if◌then◌else◌}
+use Rattle.std.specs.Prelude.{◌≡◌, ◌^◌, ◌<◌, ◌≤◌, ◌++◌, ◌∷◌, ℕ, List, not, Result, Ok, Err, length, drop, nat_lt, if◌then◌else◌}
 use Rattle.byteorder.specs.Endian.{big_bytes}
 use Rattle.lw_base.specs.declared.heads.IcmpHead.{IcmpHead}
 use Rattle.lw_wire.specs.declared.fault.WireFault.{WireFault}
@@ -41,3 +41,7 @@ icmp_of octets =
     if nat_lt (length octets) 8 then Err Short
     else (if not (has_right_sum octets) then Err BadSum
     else Ok (icmp_fields octets, 8))
+
+-- the head is read from the octets, and this data stands behind it
+abbrev pub ReadsIcmp : List ℕ → IcmpHead → List ℕ → Type 0
+ReadsIcmp octets h body = (icmp_of octets ≡ Ok (h, 8)) × (drop 8 octets ≡ body)

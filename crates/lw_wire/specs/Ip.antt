@@ -6,7 +6,7 @@ use Rattle.lw_base.specs.declared.heads.IpHead.{IpHead}
 use Rattle.lw_wire.specs.declared.fault.WireFault.{WireFault}
 use Rattle.lw_wire.specs.declared.fault.WireFault.TheVariants.{Short, BadField, BadSum}
 use Rattle.lw_wire.specs.Checksum.{internet_sum}
-use Rattle.lw_wire.specs.Fields.{ip_at, u8_at, u16_at}
+use Rattle.lw_wire.specs.Fields.{ip_at, part_at, u8_at, u16_at}
 use Rattle.lw_wire.specs.Sums.{has_right_sum, HasRightSum}
 
 -- two flags and the offset in sixteen bits: 0, DF (don't fragment), MF (more fragments), and the offset in
@@ -37,9 +37,8 @@ pub record FitsIp (h : IpHead) (n : ℕ) : Type 0 where
   pub units : h.offset % 8 ≡ 0
   pub offset : h.offset ≤ 65528
 
--- the header fits its body, and its numbers fit their octets: so it is with each header in the code
-pub record HasIpSpelling (h : IpHead) (n : ℕ) : Type 0 where
-  pub fits : FitsIp h n
+-- the numbers fit their octets: so it is with each header in the code
+pub record HasIpSpelling (h : IpHead) : Type 0 where
   pub tos : h.tos < 2 ^ 8
   pub total : h.total < 2 ^ 16
   pub id : h.id < 2 ^ 16
@@ -91,3 +90,7 @@ ip_of octets =
     else (if nat_lt (length octets) h.total then Err Short
     else (if not (has_right_sum (take h.head_len octets)) then Err BadSum
     else Ok (h, h.head_len))))
+
+-- the header is read from the octets, and this data stands behind it
+abbrev pub ReadsIp : List ℕ → IpHead → List ℕ → Type 0
+ReadsIp octets h body = (ip_of octets ≡ Ok (h, 20)) × (part_at 20 (length body) octets ≡ body)

@@ -1,12 +1,12 @@
 -- The head of a UDP datagram (RFC 768). Its length counts the octets of the head and the data.
-use Rattle.std.specs.Prelude.{◌≡◌, ◌+◌, ◌^◌, ◌<◌, ◌≤◌, ◌++◌, ◌==◌, ◌||◌, ◌⊎◌, not, Bool, ℕ, List, Result, Ok, Err, length, take, nat_lt, if◌then◌else◌}
+use Rattle.std.specs.Prelude.{◌≡◌, ◌^◌, ◌<◌, ◌≤◌, ◌++◌, ◌==◌, ◌||◌, ◌⊎◌, not, Bool, ℕ, List, Result, Ok, Err, length, take, nat_lt, if◌then◌else◌}
 use Rattle.byteorder.specs.Endian.{big_bytes}
 use Rattle.lw_base.specs.declared.addresses.Ip.{Ip}
 use Rattle.lw_base.specs.declared.heads.UdpHead.{UdpHead}
 use Rattle.lw_wire.specs.declared.fault.WireFault.{WireFault}
 use Rattle.lw_wire.specs.declared.fault.WireFault.TheVariants.{Short, BadField, BadSum}
 use Rattle.lw_wire.specs.Checksum.{internet_sum}
-use Rattle.lw_wire.specs.Fields.{port_at, u16_at}
+use Rattle.lw_wire.specs.Fields.{part_at, port_at, u16_at}
 use Rattle.lw_wire.specs.Sums.{has_right_sum, HasRightSum, pseudo_head}
 
 -- the protocol number of UDP in an IPv4 header
@@ -32,14 +32,11 @@ udp_sum h src dst body =
 unfoldable pub udp_spelling : UdpHead → Ip → Ip → List ℕ → List ℕ
 udp_spelling h src dst body = udp_with_sum (udp_sum h src dst body) h ++ body
 
--- the length counts the head and n octets of data, and the numbers fit their octets
-pub record HasUdpSpelling (h : UdpHead) (src dst : Ip) (n : ℕ) : Type 0 where
+-- the numbers fit their octets: so it is with each head in the code
+pub record HasUdpSpelling (h : UdpHead) : Type 0 where
   pub sport : h.sport.0 < 2 ^ 16
   pub dport : h.dport.0 < 2 ^ 16
-  pub counts : h.total ≡ 8 + n
   pub total : h.total < 2 ^ 16
-  pub source : src.0 < 2 ^ 32
-  pub destination : dst.0 < 2 ^ 32
 
 -- the fields of a head
 abbrev pub udp_fields : List ℕ → UdpHead
@@ -74,3 +71,7 @@ udp_of octets src dst =
     else (if nat_lt (length octets) h.total then Err Short
     else (if not (has_udp_sum (take h.total octets) src dst h.total) then Err BadSum
     else Ok (h, 8))))
+
+-- the head of a datagram between two addresses is read from the octets, and this data stands behind it
+abbrev pub ReadsUdp : List ℕ → Ip → Ip → UdpHead → List ℕ → Type 0
+ReadsUdp octets src dst h body = (udp_of octets src dst ≡ Ok (h, 8)) × (part_at 8 (length body) octets ≡ body)

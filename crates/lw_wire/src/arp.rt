@@ -1,8 +1,8 @@
-ghost use Rattle.std.specs.Prelude.{◌≡◌, ◌+◌, ◌≤◌, ◌++◌, length, IfOk, OnErr, OnOk, IsOk};
+ghost use Rattle.std.specs.Prelude.{◌≡◌, ◌+◌, ◌≤◌, ◌++◌, ℕ, List, drop, length, IfOk, OnErr, OnOk, IsOk};
 ghost use Rattle.std.specs.Vec.{vec_capacity, vec_len};
-ghost use Rattle.lw_wire.specs.Arp.{arp_fields, arp_of, arp_spelling, is_ethernet_ipv4, IsArpOperation, SpellsArp};
+ghost use Rattle.lw_wire.specs.Arp.{arp_fields, arp_of, arp_spelling, is_ethernet_ipv4, IsArpOperation, ReadsArp, SpellsArp};
 
-use crate::fields::{put, put_u16, put_u32, read_address, read_mac, read_u8, read_u16};
+use crate::fields::{append, read_address, read_mac, read_u8, read_u16};
 use crate::{NoMemory, WireFault};
 use lw_base::ArpPacket;
 
@@ -74,16 +74,52 @@ pub fn write_arp(head: &ArpPacket, body: &[u8], out: &mut Vec<u8>) -> Result<(),
     ensures room { vec_len out.old + (28 + length body.now) ≤ vec_capacity out.old → IsOk result }
     ensures len { OnOk result (vec_len out.new ≡ vec_len out.old + (28 + length body.now)) }
     ensures capacity { vec_capacity out.old ≤ vec_capacity out.new }
+    ensures read_back { OnOk result (ReadsArp (drop (length out.old.items) out.new.items) head.now body.now) }
 {
-    out.reserve(ARP_LEN + body.len())?;
-    put_u16(ETHERNET, out);
-    put_u16(IPV4, out);
-    put(&[MAC_LEN, IP_LEN], out);
-    put_u16(head.op, out);
-    put(&head.smac.0, out);
-    put_u32(head.sip.0, out);
-    put(&head.tmac.0, out);
-    put_u32(head.tip.0, out);
-    put(body, out);
-    Ok(())
+    append(&arp_octets(head), body, out)
+}
+
+/// The octets of an ARP packet for Ethernet and IPv4.
+#[inline]
+pub fn arp_octets(packet: &ArpPacket) -> [u8; 28]
+    ensures exact { result ≡ arp_spelling packet.now }
+    ensures read_back { (behind : List ℕ) → IsArpOperation packet.now.op → ReadsArp (result ++ behind) packet.now behind }
+{
+    let [hardware_high, hardware_low] = ETHERNET.to_be_bytes();
+    let [protocol_high, protocol_low] = IPV4.to_be_bytes();
+    let [op_high, op_low] = packet.op.to_be_bytes();
+    let [s1, s2, s3, s4, s5, s6] = packet.smac.0;
+    let [i1, i2, i3, i4] = packet.sip.0.to_be_bytes();
+    let [t1, t2, t3, t4, t5, t6] = packet.tmac.0;
+    let [j1, j2, j3, j4] = packet.tip.0.to_be_bytes();
+    [
+        hardware_high,
+        hardware_low,
+        protocol_high,
+        protocol_low,
+        MAC_LEN,
+        IP_LEN,
+        op_high,
+        op_low,
+        s1,
+        s2,
+        s3,
+        s4,
+        s5,
+        s6,
+        i1,
+        i2,
+        i3,
+        i4,
+        t1,
+        t2,
+        t3,
+        t4,
+        t5,
+        t6,
+        j1,
+        j2,
+        j3,
+        j4,
+    ]
 }

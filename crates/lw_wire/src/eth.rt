@@ -1,8 +1,8 @@
-ghost use Rattle.std.specs.Prelude.{◌≡◌, ◌+◌, ◌≤◌, ◌++◌, ℕ, length, IfOk, OnErr, OnOk, IsOk};
+ghost use Rattle.std.specs.Prelude.{◌≡◌, ◌+◌, ◌≤◌, ◌++◌, ℕ, List, drop, length, IfOk, OnErr, OnOk, IsOk};
 ghost use Rattle.std.specs.Vec.{vec_capacity, vec_len};
-ghost use Rattle.lw_wire.specs.Eth.{eth_of, eth_spelling, SpellsEth};
+ghost use Rattle.lw_wire.specs.Eth.{eth_of, eth_spelling, ReadsEth, SpellsEth};
 
-use crate::fields::{put, put_u16, read_mac, read_u16};
+use crate::fields::{append, read_mac, read_u16};
 use crate::{NoMemory, WireFault};
 use lw_base::EthHead;
 
@@ -39,11 +39,19 @@ pub fn write_eth(head: &EthHead, body: &[u8], out: &mut Vec<u8>) -> Result<(), N
     ensures room { vec_len out.old + (14 + length body.now) ≤ vec_capacity out.old → IsOk result }
     ensures len { OnOk result (vec_len out.new ≡ vec_len out.old + (14 + length body.now)) }
     ensures capacity { vec_capacity out.old ≤ vec_capacity out.new }
+    ensures read_back { OnOk result (ReadsEth (drop (length out.old.items) out.new.items) head.now body.now) }
 {
-    out.reserve(ETH_LEN + body.len())?;
-    put(&head.dst.0, out);
-    put(&head.src.0, out);
-    put_u16(head.ethertype, out);
-    put(body, out);
-    Ok(())
+    append(&eth_octets(head), body, out)
+}
+
+/// The octets of an Ethernet head.
+#[inline]
+pub fn eth_octets(head: &EthHead) -> [u8; 14]
+    ensures exact { result ≡ eth_spelling head.now }
+    ensures read_back { (body : List ℕ) → ReadsEth (result ++ body) head.now body }
+{
+    let [d1, d2, d3, d4, d5, d6] = head.dst.0;
+    let [s1, s2, s3, s4, s5, s6] = head.src.0;
+    let [high, low] = head.ethertype.to_be_bytes();
+    [d1, d2, d3, d4, d5, d6, s1, s2, s3, s4, s5, s6, high, low]
 }

@@ -1,6 +1,5 @@
 ghost use Rattle.std.specs.Prelude.{◌≡◌, ◌+◌, ◌≤◌, ◌++◌, length, OnErr, OnOk, IsOk};
 ghost use Rattle.std.specs.Vec.{vec_capacity, vec_len};
-ghost use Rattle.byteorder.specs.Endian.{big_bytes};
 ghost use Rattle.lw_wire.specs.Fields.{ip_at, mac_at, port_at, u8_at, u16_at, u32_at};
 
 use crate::NoMemory;
@@ -8,6 +7,7 @@ use byteorder::{BigEndian, ByteOrder};
 use lw_base::{Ip, Mac, Port};
 
 /// The octet at a place.
+#[inline]
 pub fn read_u8(octets: &[u8], place: usize) -> u8
     requires { place + 1 ≤ length octets.now }
     ensures { result ≡ u8_at place octets.now }
@@ -16,6 +16,7 @@ pub fn read_u8(octets: &[u8], place: usize) -> u8
 }
 
 /// The number in the two octets at a place.
+#[inline]
 pub fn read_u16(octets: &[u8], place: usize) -> u16
     requires { place + 2 ≤ length octets.now }
     ensures { result ≡ u16_at place octets.now }
@@ -25,6 +26,7 @@ pub fn read_u16(octets: &[u8], place: usize) -> u16
 }
 
 /// The number in the four octets at a place.
+#[inline]
 pub fn read_u32(octets: &[u8], place: usize) -> u32
     requires { place + 4 ≤ length octets.now }
     ensures { result ≡ u32_at place octets.now }
@@ -34,6 +36,7 @@ pub fn read_u32(octets: &[u8], place: usize) -> u32
 }
 
 /// The protocol address in the four octets at a place.
+#[inline]
 pub fn read_address(octets: &[u8], place: usize) -> Ip
     requires { place + 4 ≤ length octets.now }
     ensures { result ≡ ip_at place octets.now }
@@ -42,6 +45,7 @@ pub fn read_address(octets: &[u8], place: usize) -> Ip
 }
 
 /// The hardware address in the six octets at a place.
+#[inline]
 pub fn read_mac(octets: &[u8], place: usize) -> Mac
     requires { place + 6 ≤ length octets.now }
     ensures { result ≡ mac_at place octets.now }
@@ -52,6 +56,7 @@ pub fn read_mac(octets: &[u8], place: usize) -> Mac
 }
 
 /// Appends octets to a list that has room for them.
+#[inline]
 pub fn put(octets: &[u8], out: &mut Vec<u8>)
     requires { vec_len out.old + length octets.now ≤ vec_capacity out.old }
     ensures items { out.new.items ≡ out.old.items ++ octets.now }
@@ -61,27 +66,8 @@ pub fn put(octets: &[u8], out: &mut Vec<u8>)
     let _ = out.extend_from_slice(octets);
 }
 
-/// Appends the two octets of a number.
-pub fn put_u16(number: u16, out: &mut Vec<u8>)
-    requires { vec_len out.old + 2 ≤ vec_capacity out.old }
-    ensures items { out.new.items ≡ out.old.items ++ big_bytes 2 number }
-    ensures len { vec_len out.new ≡ vec_len out.old + 2 }
-    ensures room { vec_capacity out.old ≤ vec_capacity out.new }
-{
-    put(&number.to_be_bytes(), out);
-}
-
-/// Appends the four octets of a number.
-pub fn put_u32(number: u32, out: &mut Vec<u8>)
-    requires { vec_len out.old + 4 ≤ vec_capacity out.old }
-    ensures items { out.new.items ≡ out.old.items ++ big_bytes 4 number }
-    ensures len { vec_len out.new ≡ vec_len out.old + 4 }
-    ensures room { vec_capacity out.old ≤ vec_capacity out.new }
-{
-    put(&number.to_be_bytes(), out);
-}
-
 /// The port in the two octets at a place.
+#[inline]
 pub fn read_port(octets: &[u8], place: usize) -> Port
     requires { place + 2 ≤ length octets.now }
     ensures { result ≡ port_at place octets.now }
@@ -90,6 +76,7 @@ pub fn read_port(octets: &[u8], place: usize) -> Port
 }
 
 /// Appends a head and the data behind it; what they take is reserved before.
+#[inline]
 pub fn append(head: &[u8], body: &[u8], out: &mut Vec<u8>) -> Result<(), NoMemory>
     ensures ok { OnOk result (out.new.items ≡ out.old.items ++ (head.now ++ body.now)) }
     ensures err { OnErr result (out.new.items ≡ out.old.items) }

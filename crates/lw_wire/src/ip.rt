@@ -1,6 +1,6 @@
-ghost use Rattle.std.specs.Prelude.{◌≡◌, ◌+◌, ◌≤◌, ◌++◌, ℕ, length, IfOk, OnErr, OnOk, IsOk};
+ghost use Rattle.std.specs.Prelude.{◌≡◌, ◌+◌, ◌≤◌, ◌++◌, ℕ, List, drop, length, IfOk, OnErr, OnOk, IsOk};
 ghost use Rattle.std.specs.Vec.{vec_capacity, vec_len};
-ghost use Rattle.lw_wire.specs.Ip.{flags_and_offset, ip_fields, ip_of, ip_spelling, ip_with_sum, is_ip, FitsIp, SpellsIp};
+ghost use Rattle.lw_wire.specs.Ip.{flags_and_offset, ip_fields, ip_of, ip_spelling, ip_with_sum, is_ip, FitsIp, HasIpSpelling, ReadsIp, SpellsIp};
 
 use crate::fields::{append, read_address, read_u8, read_u16};
 use crate::sums::has_right_sum;
@@ -83,26 +83,29 @@ pub fn write_ip(head: &IpHead, body: &[u8], out: &mut Vec<u8>) -> Result<(), NoM
     ensures room { vec_len out.old + (20 + length body.now) ≤ vec_capacity out.old → IsOk result }
     ensures len { OnOk result (vec_len out.new ≡ vec_len out.old + (20 + length body.now)) }
     ensures capacity { vec_capacity out.old ≤ vec_capacity out.new }
+    ensures read_back { (padding : List ℕ) → OnOk result (ReadsIp (drop (length out.old.items) out.new.items ++ padding) head.now body.now) }
 {
     append(&ip_octets(head), body, out)
 }
 
 /// The octets of a header without options, with a right sum, whatever its total length counts.
-#[tactic(auto, unfolding(crate::specs::Ip::ip_spelling))]
+#[inline]
 pub fn ip_octets(head: &IpHead) -> [u8; 20]
     requires { head.now.offset ≤ 65528 }
-    ensures { result ≡ ip_spelling head.now }
+    ensures exact { result ≡ ip_spelling head.now }
+    ensures read_back { (body padding : List ℕ) → FitsIp head.now (length body) → ReadsIp (result ++ body ++ padding) head.now body }
 {
-    ip_with_sum(sum16(&ip_with_sum(0, head), &[]), head)
+    ip_with_sum(sum16(&ip_with_sum(0, *head), &[]), *head)
 }
 
-fn ip_with_sum(sum: u16, head: &IpHead) -> [u8; 20]
-    requires { head.now.offset ≤ 65528 }
-    ensures { result ≡ ip_with_sum sum head.now }
+fn ip_with_sum(sum: u16, head: IpHead) -> [u8; 20]
+    requires { head.offset ≤ 65528 }
+    ensures exact { result ≡ ip_with_sum sum head }
+    ensures fits { HasIpSpelling head }
 {
     let [total_high, total_low] = head.total.to_be_bytes();
     let [id_high, id_low] = head.id.to_be_bytes();
-    let [flags, offset] = flags_and_offset(head).to_be_bytes();
+    let [flags, offset] = flags_and_offset(&head).to_be_bytes();
     let [sum_high, sum_low] = sum.to_be_bytes();
     let [s1, s2, s3, s4] = head.src.0.to_be_bytes();
     let [d1, d2, d3, d4] = head.dst.0.to_be_bytes();

@@ -3,8 +3,6 @@
 
 mod arp;
 mod checksum;
-#[cfg(test)]
-mod checksum_tests;
 mod eth;
 mod fault;
 mod fields;
@@ -15,11 +13,11 @@ mod sums;
 mod tests;
 mod udp;
 
-pub use arp::{read_arp, write_arp};
+pub use arp::{arp_octets, read_arp, write_arp};
 pub use checksum::sum16;
-pub use eth::{read_eth, write_eth};
+pub use eth::{eth_octets, read_eth, write_eth};
 pub use fault::WireFault;
-pub use icmp::{read_icmp, write_icmp};
+pub use icmp::{icmp_octets, read_icmp, write_icmp};
 pub use ip::{ip_octets, read_ip, write_ip};
 pub use std::alloc::AllocError as NoMemory;
 pub use udp::{read_udp, write_udp};

@@ -1,126 +1,80 @@
 use super::*;
-use lw_base::{ArpPacket, EthHead, IcmpHead, Ip, IpHead, Mac, Port, UdpHead};
+use lw_base::IpHead;
+use std::alloc::Global;
 use std::test::Fail;
 
-// Who has 10.0.0.1, asked by 10.0.0.2, and the answer.
-const REQUEST: [u8; 42] = [
-    255, 255, 255, 255, 255, 255, 2, 0, 0, 0, 0, 2, 8, 6, 0, 1, 8, 0, 6, 4, 0, 1, 2, 0, 0, 0, 0, 2,
-    10, 0, 0, 2, 0, 0, 0, 0, 0, 0, 10, 0, 0, 1,
-];
+// RFC 1071, 3: the sum of these octets is ddf2.
+const EXAMPLE: [u8; 8] = [0x00, 0x01, 0xf2, 0x03, 0xf4, 0xf5, 0xf6, 0xf7];
 
-const ANSWER: [u8; 42] = [
-    2, 0, 0, 0, 0, 2, 2, 0, 0, 0, 0, 1, 8, 6, 0, 1, 8, 0, 6, 4, 0, 2, 2, 0, 0, 0, 0, 1, 10, 0, 0,
-    1, 2, 0, 0, 0, 0, 2, 10, 0, 0, 2,
-];
+// Frames as they were seen: an ARP request, an echo request, a datagram. Their sums are those of
+// other stacks.
+const FRAMES: &str = "\
+ffffffffffff020000000002080600010800060400010200000000020a0000020000000000000a000001
+02000000000102000000000208004500001f00010000400166db0a0000020a0000010800216812340001616263
+020000000001020000000002080045000020000140004011b778c0a80101c0a80102bf000035000c124daa0000ff
+";
 
-const OWN: Mac = Mac([2, 0, 0, 0, 0, 1]);
+fn digit(code: u8) -> u8 {
+    match code {
+        b'0'..=b'9' => code - b'0',
+        b'a'..=b'f' => code - b'a' + 10,
+        _ => 0,
+    }
+}
 
-const OTHER: Mac = Mac([2, 0, 0, 0, 0, 2]);
-
-#[test]
-fn reads_a_request(rt: HostRuntime) -> Result<(), Fail> {
-    let (head, place) = read_eth(&REQUEST)?;
-    assert_eq!(rt;
-        head,
-        EthHead {
-            dst: Mac::BROADCAST,
-            src: OTHER,
-            ethertype: 0x0806
+fn octets(alloc: Global, line: &str) -> Result<Vec<u8>, Fail> {
+    let mut octets = Vec::new(alloc);
+    for pair in line.as_bytes().chunks(2) {
+        if let [high, low] = pair {
+            octets.push(digit(*high) << 4 | digit(*low))?;
         }
-    );
-    let packet = read_arp(&REQUEST[place..])?;
-    let asked = ArpPacket {
-        op: 1,
-        smac: OTHER,
-        sip: Ip(0x0a00_0002),
-        tmac: Mac([0; 6]),
-        tip: Ip(0x0a00_0001),
-    };
-    assert_eq!(rt; packet, asked);
-    Ok(())
+    }
+    Ok(octets)
 }
 
-// An echo request of 10.0.0.2 to 10.0.0.1 with the data "abc", behind its Ethernet head, and the answer.
-const ECHO_REQUEST: [u8; 45] = [
-    2, 0, 0, 0, 0, 1, 2, 0, 0, 0, 0, 2, 8, 0, 0x45, 0, 0, 0x1f, 0, 1, 0, 0, 0x40, 1, 0x66, 0xdb,
-    10, 0, 0, 2, 10, 0, 0, 1, 8, 0, 0x21, 0x68, 0x12, 0x34, 0, 1, b'a', b'b', b'c',
-];
-
-const ECHO_ANSWER: [u8; 45] = [
-    2, 0, 0, 0, 0, 2, 2, 0, 0, 0, 0, 1, 8, 0, 0x45, 0, 0, 0x1f, 0, 0, 0, 0, 0xff, 1, 0xa7, 0xdb,
-    10, 0, 0, 1, 10, 0, 0, 2, 0, 0, 0x29, 0x68, 0x12, 0x34, 0, 1, b'a', b'b', b'c',
-];
-
-const OWN_IP: Ip = Ip(0x0a00_0001);
-
-const OTHER_IP: Ip = Ip(0x0a00_0002);
-
-// The header of the request's packet.
-const REQUEST_HEADER: IpHead = IpHead {
-    head_len: 20,
-    tos: 0,
-    total: 31,
-    id: 1,
-    df: false,
-    mf: false,
-    offset: 0,
-    ttl: 64,
-    proto: 1,
-    src: OTHER_IP,
-    dst: OWN_IP,
-};
-
-#[test]
-fn writes_an_echo_answer(rt: HostRuntime) -> Result<(), Fail> {
-    let message = IcmpHead {
-        kind: 0,
-        code: 0,
-        rest: 0x1234_0001,
-    };
-    let header = IpHead {
-        id: 0,
-        ttl: 255,
-        src: OWN_IP,
-        dst: OTHER_IP,
-        ..REQUEST_HEADER
-    };
-    let head = EthHead {
-        dst: OTHER,
-        src: OWN,
-        ethertype: 0x0800,
-    };
-    let mut data = Vec::new(rt.alloc());
-    write_icmp(&message, b"abc", &mut data)?;
-    let mut packet = Vec::new(rt.alloc());
-    write_ip(&header, &data, &mut packet)?;
-    let mut frame = Vec::new(rt.alloc());
-    write_eth(&head, &packet, &mut frame)?;
-    assert_eq!(rt; frame.as_slice(), ECHO_ANSWER.as_slice());
-    Ok(())
+// The data of a packet, read and written again.
+fn data_again(alloc: Global, head: &IpHead, data: &[u8]) -> Result<Vec<u8>, Fail> {
+    let mut again = Vec::new(alloc);
+    if head.proto == 1 {
+        let (message, place) = read_icmp(data)?;
+        write_icmp(&message, &data[place..], &mut again)?;
+    } else {
+        let (datagram, place) = read_udp(data, head.src, head.dst)?;
+        let body = &data[place..];
+        if usize::from(datagram.total) == 8 + body.len() {
+            write_udp(&datagram, head.src, head.dst, body, &mut again)?;
+        }
+    }
+    Ok(again)
 }
 
-// The echo request in a packet whose header has a word of options.
-const WITH_OPTIONS: [u8; 35] = [
-    0x46, 0, 0, 0x23, 0, 1, 0, 0, 0x40, 1, 0x63, 0xd6, 10, 0, 0, 2, 10, 0, 0, 1, 1, 1, 1, 0, 8, 0,
-    0x21, 0x68, 0x12, 0x34, 0, 1, b'a', b'b', b'c',
-];
+// What stands behind an Ethernet head, read and written again.
+fn body_again(alloc: Global, ethertype: u16, body: &[u8]) -> Result<Vec<u8>, Fail> {
+    let mut again = Vec::new(alloc);
+    if ethertype == 0x0806 {
+        let packet = read_arp(body)?;
+        write_arp(&packet, &[], &mut again)?;
+    } else {
+        let (head, place) = read_ip(body)?;
+        let data = data_again(alloc, &head, &body[place..])?;
+        if head.offset == 0 {
+            again.extend_from_slice(&ip_octets(&head))?;
+            again.extend_from_slice(&data)?;
+        }
+    }
+    Ok(again)
+}
 
 #[test]
-fn takes_a_datagram_without_a_sum(rt: HostRuntime) -> Result<(), Fail> {
-    let octets = [0x0f, 0xa0, 0, 9, 0, 10, 0, 0, b'h', b'i'];
-    let head = UdpHead {
-        sport: Port(4000),
-        dport: Port(9),
-        total: 10,
-    };
-    assert_eq!(rt; read_udp(&octets, OTHER_IP, OWN_IP)?, (head, 8));
-    assert_eq!(rt;
-        read_udp(&octets[..7], OTHER_IP, OWN_IP),
-        Err(WireFault::Short)
-    );
-    assert_eq!(rt;
-        read_udp(&octets[..9], OTHER_IP, OWN_IP),
-        Err(WireFault::Short)
-    );
+fn what_other_stacks_wrote_is_read_and_written(rt: HostRuntime) -> Result<(), Fail> {
+    assert_eq!(rt; sum16(&EXAMPLE, &[]), !0xddf2);
+    for line in FRAMES.lines() {
+        let frame = octets(rt.alloc(), line)?;
+        let (head, place) = read_eth(&frame)?;
+        let body = body_again(rt.alloc(), head.ethertype, &frame[place..])?;
+        let mut again = Vec::new(rt.alloc());
+        write_eth(&head, &body, &mut again)?;
+        assert_eq!(rt; again.as_slice(), frame.as_slice(), "{line}");
+    }
     Ok(())
 }

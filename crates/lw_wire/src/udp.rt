@@ -1,7 +1,7 @@
-ghost use Rattle.std.specs.Prelude.{◌≡◌, ◌+◌, ◌≤◌, ◌++◌, ℕ, length, IfOk, OnErr, OnOk, IsOk};
+ghost use Rattle.std.specs.Prelude.{◌≡◌, ◌+◌, ◌≤◌, ◌++◌, ℕ, List, drop, length, IfOk, OnErr, OnOk, IsOk};
 ghost use Rattle.std.specs.Vec.{vec_capacity, vec_len};
 ghost use Rattle.lw_wire.specs.Sums.{pseudo_head};
-ghost use Rattle.lw_wire.specs.Udp.{has_udp_sum, sent_sum, udp_fields, udp_of, udp_protocol, udp_spelling, udp_sum, udp_with_sum, SpellsUdp};
+ghost use Rattle.lw_wire.specs.Udp.{has_udp_sum, sent_sum, udp_fields, udp_of, udp_protocol, udp_spelling, udp_sum, udp_with_sum, HasUdpSpelling, ReadsUdp, SpellsUdp};
 
 use crate::fields::{append, read_port, read_u16};
 use crate::sums::pseudo_head;
@@ -80,9 +80,10 @@ pub fn write_udp(
     ensures room { vec_len out.old + (8 + length body.now) ≤ vec_capacity out.old → IsOk result }
     ensures len { OnOk result (vec_len out.new ≡ vec_len out.old + (8 + length body.now)) }
     ensures capacity { vec_capacity out.old ≤ vec_capacity out.new }
+    ensures read_back { (padding : List ℕ) → OnOk result (ReadsUdp (drop (length out.old.items) out.new.items ++ padding) src dst head.now body.now) }
 {
     let sum = udp_sum(head, src, dst, body);
-    append(&udp_with_sum(sum, head), body, out)
+    append(&udp_with_sum(sum, *head), body, out)
 }
 
 #[tactic(auto, unfolding(crate::specs::Udp::udp_sum))]
@@ -97,7 +98,7 @@ fn pseudo_and_head(head: &UdpHead, src: Ip, dst: Ip) -> [u8; 20]
 {
     let mut octets = [0; 20];
     octets[..12].copy_from_slice(&pseudo_head(src, dst, UDP, head.total));
-    octets[12..].copy_from_slice(&udp_with_sum(0, head));
+    octets[12..].copy_from_slice(&udp_with_sum(0, *head));
     octets
 }
 
@@ -107,8 +108,9 @@ fn sent_sum(sum: u16) -> u16
     if sum == 0 { u16::MAX } else { sum }
 }
 
-fn udp_with_sum(sum: u16, head: &UdpHead) -> [u8; 8]
-    ensures { result ≡ udp_with_sum sum head.now }
+fn udp_with_sum(sum: u16, head: UdpHead) -> [u8; 8]
+    ensures exact { result ≡ udp_with_sum sum head }
+    ensures fits { HasUdpSpelling head }
 {
     let [sport_high, sport_low] = head.sport.0.to_be_bytes();
     let [dport_high, dport_low] = head.dport.0.to_be_bytes();

@@ -1,5 +1,5 @@
 -- What the clauses of the top call say, from what comes of the words.
-use Rattle.std.proofs.Common.{ℕ, ◌≡◌, ◌≢◌, ◌≤◌, ◌∙◌, ◌⊎◌, inl, inr, ⊎_elim, List, [], ◌∷◌, length, take, min, Option, Some, IfSome, Ok, Err, ap, subst, sym, refl, length-take, arith}
+use Rattle.std.proofs.Common.{ℕ, ◌≡◌, ◌≢◌, ◌≤◌, ◌<◌, ◌+◌, ◌∙◌, ◌⊎◌, inl, inr, ⊎_elim, List, [], ◌∷◌, length, take, min, All, Option, None, Some, IfSome, IsTrue, Ok, Err, ap, subst, sym, refl, length-take, arith}
 use Rattle.std.proofs.lemmas.List.Elements.{All-head, All-tail}
 use Rattle.lw_outside.specs.Faults.{Rose}
 use Rattle.lw_outside.specs.Files.{FileSeen, FilesSeen, IsReadOf}
@@ -9,6 +9,7 @@ use Rattle.lw_script.specs.Grammar.{SpellsScript, FailsAt}
 use Rattle.lw_script.proofs.GrammarLaws.{exclusive}
 use Rattle.lw_pcap.specs.Capture.{SpellsCapture, CaptureFails}
 use Rattle.lw_pcap.proofs.CaptureLaws.{capture_sound}
+use Rattle.lwip_run.specs.declared.refusal.Refusal.{Refusal}
 use Rattle.lwip_run.specs.declared.refusal.Refusal.TheVariants.{Usage, BadScript, BadCapture, ReadFault, WriteFault, TooLong, NoMemory}
 use Rattle.lwip_run.specs.Answers.{Ending, IsNoForm, IsStatus, code_of, said_of, serial_words, text_of, text_of_status}
 use Rattle.lwip_run.specs.Reading.{IsLonger, IsLost, Sees, SeesOne}

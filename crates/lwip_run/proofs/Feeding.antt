@@ -1,12 +1,12 @@
 -- What is known while frames are fed.
-use Rattle.std.proofs.Common.{ℕ, false, ◌≡◌, ◌+◌, ◌++◌, ◌∙◌, List, [], ◌∷◌, suc, length, map, ap, sym, refl, arith, add-zero, append_assoc, append-nil}
+use Rattle.std.proofs.Common.{ℕ, ◌≡◌, ◌+◌, ◌++◌, ◌∙◌, List, [], ◌∷◌, suc, length, map, ap, sym, refl, arith, add-zero, append_assoc, append-nil}
 use Rattle.std.proofs.lemmas.List.{length-append}
-use Rattle.lw_core.specs.declared.event.Event.{Event}
-use Rattle.lw_core.specs.declared.event.Event.TheVariants.{Frame}
-use Rattle.lw_core.specs.declared.event.Entry.{Entry}
+use Rattle.lw_events.specs.declared.event.Event.{Event}
+use Rattle.lw_events.specs.declared.event.Event.TheVariants.{Frame}
+use Rattle.lw_events.specs.declared.entry.Entry.{Entry}
 use Rattle.lw_core.specs.State.{State}
 use Rattle.lw_core.specs.Step.{step}
-use Rattle.lw_core.specs.History.{entry_of, state_after}
+use Rattle.lw_core.specs.History.{entry_of, granted, state_after}
 use Rattle.lw_transcript.specs.declared.lines.Evidence.{Evidence}
 use Rattle.lw_transcript.specs.declared.lines.Evidence.TheVariants.{At}
 use Rattle.lw_transcript.specs.declared.lines.Outcome.TheVariants.{Fed}
@@ -22,15 +22,15 @@ pub record Feeding (actor : ℕ) (before now : Configuration) (seen_before seen_
   pub seen : seen_now ≡ seen_before ++ named_from (length before.entries) done
 
 -- one event more leaves the state of the step of that event
-state_more : (s : State) (events : List (Event (List ℕ))) (event : Event (List ℕ)) → state_after s (events ++ event ∷ []) ≡ (step (state_after s events) event false).state
+state_more : (s : State) (events : List (Event (List ℕ))) (event : Event (List ℕ)) → state_after s (events ++ event ∷ []) ≡ (step (state_after s events) event granted).state
 state_more s [] event = refl
-state_more s (e ∷ events) event = state_more (step s e false).state events event
+state_more s (e ∷ events) event = state_more (step s e granted).state events event
 
 -- one event more has one entry more
-entries_more : (s : State) (actor : ℕ) (events : List (Event (List ℕ))) (event : Event (List ℕ)) → entries_of s actor (events ++ event ∷ []) ≡ entries_of s actor events ++ entry_of (state_after s events) actor event false ∷ []
+entries_more : (s : State) (actor : ℕ) (events : List (Event (List ℕ))) (event : Event (List ℕ)) → entries_of s actor (events ++ event ∷ []) ≡ entries_of s actor events ++ entry_of (state_after s events) actor event granted ∷ []
 entries_more s actor [] event = refl
 entries_more s actor (e ∷ events) event =
-    ap (λ (es : List Entry). entry_of s actor e false ∷ es) (entries_more (step s e false).state actor events event)
+    ap (λ (es : List Entry). entry_of s actor e granted ∷ es) (entries_more (step s e granted).state actor events event)
 
 -- frames as events, one more
 frames_more : (frames : List (List ℕ)) (frame : List ℕ) → map Frame (frames ++ frame ∷ []) ≡ map Frame frames ++ Frame frame ∷ []
@@ -47,7 +47,7 @@ named_more n (f ∷ frames) frame =
 -- each frame has its entry
 length_fed : (s : State) (actor : ℕ) (frames : List (List ℕ)) → length (entries_of s actor (map Frame frames)) ≡ length frames
 length_fed s actor [] = refl
-length_fed s actor (frame ∷ frames) = ap suc (length_fed (step s (Frame frame) false).state actor frames)
+length_fed s actor (frame ∷ frames) = ap suc (length_fed (step s (Frame frame) granted).state actor frames)
 
 -- nothing was fed yet
 pub begins_feeding : (actor : ℕ) (c : Configuration) (seen : List Evidence) → Feeding actor c c seen seen
@@ -73,13 +73,13 @@ feeds_one actor before now taken after seen_before seen_now seen_after frame num
           ∙ ap (λ (fs : List (List ℕ)). so_far.done ++ fs) (takes.first ∙ ap (λ (fs : List (List ℕ)). frame ∷ fs) (sym left_is))
           ∙ sym (append_assoc so_far.done (frame ∷ []) after.left);
       state = ap (λ (c : Configuration). c.state) makes
-          ∙ ap (λ (t : State). (step t (Frame frame) false).state) is_state
+          ∙ ap (λ (t : State). (step t (Frame frame) granted).state) is_state
           ∙ sym (state_more before.state events (Frame frame))
           ∙ ap (λ (es : List (Event (List ℕ))). state_after before.state es) (sym (frames_more so_far.done frame));
       entries = ap (λ (c : Configuration). c.entries) makes
-          ∙ ap (λ (t : State). taken.entries ++ entry_of t actor (Frame frame) false ∷ []) is_state
-          ∙ ap (λ (es : List Entry). es ++ entry_of s actor (Frame frame) false ∷ []) (kept ∙ so_far.entries)
-          ∙ append_assoc before.entries (entries_of before.state actor events) (entry_of s actor (Frame frame) false ∷ [])
+          ∙ ap (λ (t : State). taken.entries ++ entry_of t actor (Frame frame) granted ∷ []) is_state
+          ∙ ap (λ (es : List Entry). es ++ entry_of s actor (Frame frame) granted ∷ []) (kept ∙ so_far.entries)
+          ∙ append_assoc before.entries (entries_of before.state actor events) (entry_of s actor (Frame frame) granted ∷ [])
           ∙ ap (λ (es : List Entry). before.entries ++ es) (sym (entries_more before.state actor events (Frame frame)))
           ∙ ap (λ (es : List (Event (List ℕ))). before.entries ++ entries_of before.state actor es) (sym (frames_more so_far.done frame));
       seen = sees

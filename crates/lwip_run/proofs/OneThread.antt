@@ -1,6 +1,6 @@
 -- A run on one thread is the serial schedule.
 use Rattle.std.proofs.Common.{ℕ, ◌≡◌, ◌∙◌, List, [], ◌∷◌, ap, subst, sym, refl, slice_index_or}
-use Rattle.lw_core.specs.declared.event.Entry.{Entry}
+use Rattle.lw_events.specs.declared.entry.Entry.{Entry}
 use Rattle.lw_script.specs.declared.parts.Call.{Call}
 use Rattle.lw_script.specs.declared.parts.Script.{Script}
 use Rattle.lw_script.specs.Parts.{call_text}

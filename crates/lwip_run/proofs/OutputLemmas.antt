@@ -16,9 +16,9 @@ pub record WrittenSoFar (before now : SinkSeen) (octets rest : List ℕ) : Type 
 -- one more call wrote some front of the rest
 pub written_more : (before between now : SinkSeen) (octets rest : List ℕ) (count : ℕ) → WrittenSoFar before between octets rest → Adds between now (take count rest) → between.faults ≤ now.faults → WrittenSoFar before now octets (drop count rest)
 written_more before between now octets rest count w added rose = record {
-  front = w.front ++ take count rest;
-  split =
+      front = w.front ++ take count rest;
+      split =
       w.split ∙ ap (λ (l : List ℕ). w.front ++ l) (sym (take-append-drop count rest)) ∙ sym (append_assoc w.front (take count rest) (drop count rest));
-  adds = Adds-then before between now w.front (take count rest) w.adds added;
-  later = let first = w.later in omega arith;
-}
+      adds = Adds-then before between now w.front (take count rest) w.adds added;
+      later = let first = w.later in omega arith;
+    }

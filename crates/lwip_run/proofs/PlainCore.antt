@@ -1,41 +1,36 @@
--- What a core over octets that nobody counts needs of them.
-use Rattle.std.proofs.Common.{ℕ, ◌≡◌, ◌++◌, List, [], ◌∷◌, All, Option, Some, None, sym, refl, arith}
+-- What a core over payloads needs of them, and what its step leaves where none is refused.
+use Rattle.std.proofs.Common.{ℕ, ◌≡◌, ◌+◌, ◌≤◌, ◌<◌, ◌++◌, ◌∙◌, Bool, true, false, List, [], ◌∷◌, length, map, All, Option, Some, None, ap, sym, subst, refl, arith}
 use Rattle.std.specs.Prelude.{option_to_list}
-use Rattle.std.proofs.lemmas.List.Elements.{All-append, All-rest, All-same, All-weaker}
-use Rattle.std.proofs.lemmas.List.Sums.{sum_by-cons}
-use Rattle.lw_payload.specs.Views.{Slot, View, plain_home, plain_view}
-use Rattle.lw_payload.specs.Lists.{AreOf, rows_of}
-use Rattle.lw_core.specs.declared.event.Event.{Event}
-use Rattle.lw_core.specs.Held.{payloads_in}
+use Rattle.std.proofs.lemmas.List.Elements.{All-rest, All-same, All-weaker}
+use Rattle.lw_payload.specs.declared.kinds.Kind.{Kind}
+use Rattle.lw_payload.specs.declared.kinds.Kind.TheVariants.{Ram, Pool}
+use Rattle.lw_payload.specs.Views.{View, HomeView, plain_home}
+use Rattle.lw_payload.specs.Calls.{IsMade, KeepsHome}
+use Rattle.lw_payload.specs.Totals.{IsOwned, IsSum, total}
+use Rattle.lw_payload.proofs.TotalLaws.{IsSum-cons, stranger-none}
+use Rattle.lw_events.specs.declared.event.Event.{Event}
+use Rattle.lw_events.specs.declared.event.Event.TheVariants.{Frame, Stop}
+use Rattle.lw_events.specs.declared.event.Reply.{Reply}
+use Rattle.lw_events.specs.declared.entry.Post.{Post}
+use Rattle.lw_events.specs.declared.entry.Entry.{Entry}
+use Rattle.lw_events.specs.Events.{Grants, grants_of, had_place}
+use Rattle.lw_core.specs.State.{State}
+use Rattle.lw_core.specs.Step.{frame_granted, step}
+use Rattle.lw_core.specs.History.{IsStep, entry_of, granted}
+use Rattle.lw_core.specs.Held.{RamIsShort}
+use Rattle.lw_rules.specs.Schedule.{Configuration, made}
 use Rattle.lw_transcript.specs.Transcript.{IsFrame}
-use Rattle.lwip_run.specs.Plain.{IsBody}
+use Rattle.lwip_run.specs.Plain.{IsBody, NeverRefuses}
 
--- how octets that nobody counts are seen, with the room that they have
-abbrev pub plain_seen : {P : Type 0} → (P → List ℕ) → (P → ℕ) → P → View
-plain_seen octets room p = plain_view (octets p) (room p)
-
--- they have no row at any slot
-no_rows_in : {P : Type 0} (octets : P → List ℕ) (room : P → ℕ) (ps : List P) (s : Slot) → rows_of (plain_seen octets room) ps s ≡ 0
-no_rows_in octets room [] s = refl
-no_rows_in octets room (p ∷ ps) s =
-    let first = sum_by-cons (λ q. (plain_seen octets room q).rows s) p ps in
-    let rest = no_rows_in octets room ps s in
-    omega arith
-
--- those that are short enough may be given to their Home
-plain_are : {P : Type 0} (octets : P → List ℕ) (room : P → ℕ) (ps : List P) → All (λ p. IsBody (octets p)) ps → AreOf (plain_seen octets room) plain_home ps
-plain_are octets room ps short = record {
-  short = short;
-  family = λ k d l. refl;
-  listed = λ s. let none = no_rows_in octets room ps s in omega arith;
+-- octets that nobody counts are never refused
+pub plain_never : {H : Type 0} → NeverRefuses {H = H} (λ home. plain_home) (λ home after kind n. ⊥)
+plain_never = record {
+  ram = λ home. refl;
+  pool = λ home. refl;
+  fits = λ home kind n h. h;
+  full = λ home after kind n h. h;
+  counts = λ home. omega arith;
 }
-
--- so may the payload of an event, and those that a core holds
-pub event_are : {P : Type 0} (octets : P → List ℕ) (room : P → ℕ) (event : Event P) (held : List P)
-    → All (λ p. IsBody (octets p)) (payloads_in event) → All (λ p. IsBody (octets p)) held
-    → AreOf (plain_seen octets room) plain_home (payloads_in event ++ held)
-event_are octets room event held short kept =
-    plain_are octets room (payloads_in event ++ held) (All-append (λ p. IsBody (octets p)) (payloads_in event) held short kept)
 
 -- frames are short enough
 pub frames_bodies : (frames : List (List ℕ)) → All IsFrame frames → All IsBody frames
@@ -45,3 +40,52 @@ frames_bodies frames short = All-weaker IsFrame IsBody (λ frame few. omega arit
 pub rest_bodies : (first : Option (List ℕ)) (before after : List (List ℕ)) → before ≡ option_to_list first ++ after → All IsBody before → All IsBody after
 rest_bodies (Some frame) before after is short = All-rest IsBody frame after before is short
 rest_bodies None before after is short = All-same IsBody after before (sym is) short
+
+-- what is made is owned beside what was owned
+pub made_owned : {P : Type 0} (seen : P → View) (h k : HomeView) (kind : Kind) (octets : List ℕ) (p : P) (held : List P)
+    → IsMade h k kind octets (seen p) → k.pools ≡ h.pools → length octets < 2 ^ 32
+    → IsOwned h (total seen h.pools.family held) → IsOwned k (total seen k.pools.family (p ∷ held))
+made_owned seen h k kind octets p held m same short owned =
+    let family : k.pools.family ≡ h.pools.family = ap (λ pools. pools.family) same in
+    let sum = IsSum-cons seen h.pools.family p held in
+    let few : length (seen p).octets < 2 ^ 32 = subst (λ (l : List ℕ). length l < 2 ^ 32) (sym m.octets) short in
+    let known = stranger-none h.pools.family (seen p) m.family few in
+    subst (λ (f : List ℕ). IsOwned k (total seen f (p ∷ held))) (sym family)
+    (record {
+      rows = λ s. let r = sum.rows s in let o = owned.rows s in let e = m.rows s in omega arith;
+      strangers = let n = sum.strangers in let o = owned.strangers in omega (arith, known);
+    })
+
+-- no event posts yet
+posts_none : (s : State) (event : Event (List ℕ)) (short : Bool) (places : List Bool) → (step s event (record { short = short; places = places })).posts ≡ []
+posts_none s (Frame octets) true places = refl
+posts_none s (Frame octets) false places = refl
+posts_none s Stop short places = refl
+
+-- an entry for which no pool was short tells that all was granted
+tells_granted : (s : State) (actor : ℕ) (event : Event (List ℕ)) (entry : Entry) → entry ≡ entry_of s actor event (grants_of entry) → entry.short ≡ false → grants_of entry ≡ granted
+tells_granted s actor event entry is served =
+    let none : entry.posts ≡ [] = ap (λ (e : Entry). e.posts) is ∙ posts_none s event entry.short (map had_place entry.posts) in
+    ap (λ (short : Bool). let g : Grants = record { short = short; places = map had_place entry.posts } in g) served
+    ∙ ap (λ (posts : List Post). let g : Grants = record { short = false; places = map had_place posts } in g) none
+
+-- what is not true is false
+not_short : (b : Bool) → (b ≡ true → ⊥) → b ≡ false
+not_short true h = absurd (h refl)
+not_short false h = refl
+
+-- a step that no Home refused RAM for is one turn of the schedule
+pub step_made : {H : Type 0} (home_seen : H → HomeView) (may_refuse : H → H → Kind → ℕ → Type 0) (home : H) (c d : Configuration) (actor : ℕ)
+    (event : Event (List ℕ)) (entry : Entry) (reply : Reply) → NeverRefuses home_seen may_refuse
+    → (entry.short ≡ true → RamIsShort may_refuse home (home_seen home)) → IsStep c.state actor event entry reply d.state
+    → d.left ≡ c.left → d.entries ≡ c.entries ++ entry ∷ [] → d ≡ made c actor (event ∷ [])
+step_made home_seen may_refuse home c d actor event entry reply never short is left entries =
+    let served : entry.short ≡ false = not_short entry.short (λ b. let r = short b in never.full home r.after Ram r.octets r.refused) in
+    let grants = tells_granted c.state actor event entry is.made served in
+    let state : d.state ≡ (step c.state event granted).state = is.moved ∙ ap (λ (g : Grants). (step c.state event g).state) grants in
+    let made_entry : entry ≡ entry_of c.state actor event granted = is.made ∙ ap (λ (g : Grants). entry_of c.state actor event g) grants in
+    let config = λ (s : State) (fs : List (List ℕ)) (es : List Entry). let x : Configuration = record { state = s; left = fs; entries = es } in x in
+    ap (λ (s : State). config s d.left d.entries) state
+    ∙ ap (λ (fs : List (List ℕ)). config (step c.state event granted).state fs d.entries) left
+    ∙ ap (λ (es : List Entry). config (step c.state event granted).state c.left es)
+    (entries ∙ ap (λ (e : Entry). c.entries ++ e ∷ []) made_entry)

@@ -6,26 +6,26 @@ use Rattle.lw_script.specs.declared.parts.Script.{Script}
 use Rattle.lwip_run.specs.declared.refusal.Refusal.{Refusal}
 use Rattle.lwip_run.specs.declared.refusal.Refusal.TheVariants.{Usage, BadScript, BadCapture, ReadFault, WriteFault, TooLong, NoMemory}
 use Rattle.lwip_run.specs.Answers.{Ending}
-use Rattle.lwip_run.specs.Reading.{IsRead, SeesOne}
+use Rattle.lwip_run.specs.Reading.{IsRead, Sees, SeesOne}
 use Rattle.lw_pcap.specs.declared.fault.PcapFault.{PcapFault}
 use Rattle.lw_pcap.specs.declared.fault.PcapFault.TheVariants.{BadMagic, BadVersion, BadLink, Truncated, TooLong as TooLongFrame, NoMemory as NoMemoryFault}
 use Rattle.lw_pcap.specs.Capture.{CaptureFails}
 use Rattle.lw_pcap.specs.Faults.{fault_at}
-use Rattle.lwip_run.specs.Serial.{CaptureFailsAt, CaptureRefused, IsScript, capture_limit, refusal_of, SeesBoth, SerialRefused}
+use Rattle.lwip_run.specs.Serial.{CaptureFailsAt, CaptureRefused, IsScript, capture_limit, refusal_of, ScriptRefused, SeesBoth, SerialRefused}
 use Rattle.lwip_run.specs.Comes.{Outside, SerialComes}
 use Rattle.lwip_run.proofs.InputLemmas.{Sees-then}
 
 -- the script was read, then the capture was looked for
 pub both : (script capture : List ℕ) (before between now : FilesSeen) (says : Script) (P : FileSeen → Type 0) → SeesOne script before between (IsScript says) → SeesOne capture between now P → SeesBoth script capture before now says P
 both script capture before between now says P s c = record {
-  script = s.0;
-  capture = c.0;
-  sees = Sees-then before between now (s.0 ∷ []) (c.0 ∷ []) s.1 c.1;
-  script_named = s.2;
-  capture_named = c.2;
-  script_is = s.3;
-  came = c.3;
-}
+      script = s.0;
+      capture = c.0;
+      sees = Sees-then before between now (s.0 ∷ []) (c.0 ∷ []) s.1 c.1;
+      script_named = s.2;
+      capture_named = c.2;
+      script_is = s.3;
+      came = c.3;
+    }
 
 -- a fault of a later part of a call is one of the call
 later_refused : (before between now : FilesSeen) → before.faults ≤ between.faults → (r : Refusal) (file : FileSeen) → CaptureRefused between now r file → CaptureRefused before now r file

@@ -1,5 +1,5 @@
 -- What comes of any words: each ending with its cause.
-use Rattle.std.specs.Prelude.{ℕ, ◌≡◌, ◌≤◌, ◌⊎◌, List, length, Option, Some, Ok, Err}
+use Rattle.std.specs.Prelude.{ℕ, ◌≡◌, ◌≤◌, ◌⊎◌, List, [], ◌∷◌, length, Option, Some, Ok, Err}
 use Rattle.lw_outside.specs.Faults.{Rose}
 use Rattle.lw_outside.specs.Files.{FileSeen, FilesSeen}
 use Rattle.lw_outside.specs.Sinks.{SinkSeen, Adds, AddsFront}

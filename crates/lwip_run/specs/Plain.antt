@@ -1,6 +1,10 @@
 -- Calls that are made directly on a core: each is one turn of the serial schedule.
-use Rattle.std.specs.Prelude.{ℕ, ◌≡◌, ◌++◌, ◌^◌, ◌<◌, Bool, List, [], ◌∷◌, length, map, All}
-use Rattle.lw_core.specs.declared.event.Event.TheVariants.{Frame}
+use Rattle.std.specs.Prelude.{ℕ, ◌≡◌, ◌+◌, ◌-◌, ◌++◌, ◌^◌, ◌<◌, Bool, IsTrue, List, [], ◌∷◌, length, map, All}
+use Rattle.lw_events.specs.declared.event.Event.TheVariants.{Frame}
+use Rattle.lw_payload.specs.declared.kinds.Kind.{Kind}
+use Rattle.lw_payload.specs.declared.kinds.Kind.TheVariants.{Ram, Pool}
+use Rattle.lw_payload.specs.Views.{View, HomeView, IsTooLong}
+use Rattle.lw_payload.specs.Totals.{IsOwned, total}
 use Rattle.lw_script.specs.declared.parts.Call.{Call}
 use Rattle.lw_transcript.specs.declared.lines.Evidence.{Evidence}
 use Rattle.lw_transcript.specs.declared.lines.Outcome.{Outcome}
@@ -13,9 +17,20 @@ use Rattle.lw_rules.specs.Schedule.{Configuration, Turn, made, named_from, turn}
 abbrev pub IsBody : List ℕ → Type 0
 IsBody octets = length octets < 2 ^ 32
 
--- the payloads that a core holds, and the frames that are left, are short enough
-pub record HasBodies {P : Type 0} (held : List P) (octets : P → List ℕ) (left : List (List ℕ)) : Type 0 where
-  pub kept : All (λ p. IsBody (octets p)) held
+-- Homes that make each payload that they are asked for: they make the kinds RAM and POOL, none is too long for them or is
+-- refused as Empty, and their counts of POOL never end
+pub record NeverRefuses {H : Type 0} (home_seen : H → HomeView) (may_refuse : H → H → Kind → ℕ → Type 0) : Type 0 where
+  pub ram : (home : H) → IsTrue ((home_seen home).pools.makes Ram)
+  pub pool : (home : H) → IsTrue ((home_seen home).pools.makes Pool)
+  pub fits : (home : H) (kind : Kind) (n : ℕ) → ¬ IsTooLong (home_seen home) kind n
+  pub full : (home after : H) (kind : Kind) (n : ℕ) → ¬ may_refuse home after kind n
+  pub counts : (home : H) → (home_seen home).counts.made + (home_seen home).counts.refused < 2 ^ 64 - 1
+
+-- what a core holds may be given to its Home, which makes each payload; and the frames that are left are short enough
+pub record IsAtHome {P H : Type 0} (seen : P → View) (home_seen : H → HomeView) (may_refuse : H → H → Kind → ℕ → Type 0) (home : H)
+    (held : List P) (left : List (List ℕ)) : Type 0 where
+  pub never : NeverRefuses home_seen may_refuse
+  pub owned : IsOwned (home_seen home) (total seen (home_seen home).pools.family held)
   pub frames : All IsBody left
 
 -- a call that gave what a turn of the schedule gives

@@ -1,14 +1,14 @@
 ghost use Rattle.std.specs.Prelude.{◌≡◌, [], ◌∷◌, IfOk};
-ghost use Rattle.lw_rules.specs.Lines.{core_line, core_lines_from, event_line, frames_sent, reply_line};
+ghost use Rattle.lw_rules.specs.Lines.{core_lines_from, frames_sent};
 ghost use Rattle.lw_rules.specs.Schedule.{body_of};
 ghost use Rattle.lw_script.specs.Driver.{driver_calls};
 ghost use Rattle.lwip_run.specs.Parts.{part_of, parts_of};
 
 use lw_actors::DoneCall;
 use lw_base::{Octets, Series};
-use lw_core::{Entry, Event, EventText, Reply};
+use lw_events::Entry;
 use lw_script::{Call, Script};
-use lw_transcript::{ActorPart, Body, CallPart, CoreLine, EndLine, EventLine, ReplyLine};
+use lw_transcript::{ActorPart, Body, CallPart, CoreLine, EndLine};
 use std::alloc::{AllocError, Global};
 
 /// The body of a transcript: the history, what the driver's calls saw and did, and the counts.
@@ -57,46 +57,10 @@ fn core_lines(alloc: Global, entries: Vec<Entry>) -> Result<Vec<CoreLine>, Alloc
     let mut lines = Vec::with_capacity(alloc, entries.len())?;
     let mut number = 1u32;
     for entry in entries {
-        lines.push(line(number, entry))?;
+        lines.push(CoreLine { number, entry })?;
         number = number.checked_add(1).ok_or(AllocError)?;
     }
     Ok(lines)
-}
-
-fn line(number: u32, entry: Entry) -> CoreLine
-    ensures { result ≡ core_line number entry }
-{
-    let Entry {
-        actor,
-        event,
-        short: _,
-        frames,
-        reply,
-    } = entry;
-    CoreLine {
-        number,
-        actor,
-        event: event_text(event),
-        reply: reply_text(reply),
-        outs: frames,
-    }
-}
-
-fn event_text(event: EventText) -> EventLine
-    ensures { result ≡ event_line event }
-{
-    match event {
-        Event::Frame(octets) => EventLine::Frame(octets),
-        Event::Stop => EventLine::Stop,
-    }
-}
-
-fn reply_text(reply: Reply) -> ReplyLine
-    ensures { result ≡ reply_line reply }
-{
-    match reply {
-        Reply::Done => ReplyLine::Ok,
-    }
 }
 
 /// How many frames the entries sent.

@@ -1,48 +1,54 @@
-ghost use Rattle.std.specs.Prelude.{◌≡◌, ◌+◌, ◌++◌, [], ◌∷◌, All, IfOk, IfSome, MatchOption, length};
-ghost use Rattle.lw_core.specs.Held.{payloads_in, text_of};
+ghost use Rattle.std.specs.Prelude.{◌≡◌, ◌+◌, ◌++◌, [], ◌∷◌, All, IfOk, IfSome, List, MatchOption, length};
+ghost use Rattle.lw_payload.specs.Totals.{IsOwned, total};
+ghost use Rattle.lw_core.specs.Held.{held_by};
 ghost use Rattle.lw_rules.specs.Schedule.{made, named_from, turn};
-ghost use Rattle.lwip_run.specs.Plain.{FedAll, IsBody, TakesFrame};
+ghost use Rattle.lwip_run.specs.Plain.{FedAll, IsBody, NeverRefuses, TakesFrame};
 
 use lw_actors::{Api, Step};
 use lw_base::{FrameList, Octets};
-use lw_core::{Core, Entry, Event};
-use lw_payload::Payload;
+use lw_core::Core;
+use lw_events::{Entry, Event};
+use lw_payload::{Kind, MakeFault, Payload};
 use lw_script::Call;
 use lw_transcript::{Evidence, Outcome};
 use std::alloc::{AllocError, Global};
 use std::marker::Model;
 use std::vec::IntoIter;
 
-/// The calls of a script made directly on a core, on one thread. Contracts see it as a configuration
-/// of the serial schedule.
+/// The calls of a script made directly on a core over payloads, on one thread. Contracts see it as a
+/// configuration of the serial schedule; what the core holds is of its Home.
 #[derive(Drop)]
-pub struct PlainApi {
-    core: Core<Vec<u8>>,
+pub struct PlainApi<P: Payload<Home: Drop>> {
+    core: Core<P>,
+    home: P::Home,
     left: IntoIter<Octets>,
     entries: Vec<Entry>,
 }
 
-impl Model for PlainApi {
+impl<P: Payload<Home: Drop>> Model for PlainApi<P> {
     ghost use Rattle.std.specs.Vec.Iter.{into_iter_items};
+    ghost use Rattle.lw_core.specs.Held.{held_by};
     ghost use Rattle.lw_rules.specs.Schedule.{Configuration};
-    ghost use Rattle.lwip_run.specs.Plain.{HasBodies};
+    ghost use Rattle.lwip_run.specs.Plain.{IsAtHome};
 
     ghost Value = { Configuration };
 
     ghost view = { λ a. record { state = a.core.state; left = into_iter_items a.left; entries = a.entries.items } };
 
-    ghost invariant = { λ a. HasBodies a.core.held (λ v. v.items) (into_iter_items a.left) };
+    ghost invariant = { λ a. IsAtHome P.seen P.home_seen P.may_refuse a.home (held_by a.core) (into_iter_items a.left) };
 }
 
-impl PlainApi {
-    /// A core that has made no event yet, and the frames that are to be fed to it.
-    pub fn new(alloc: Global, core: Core<Vec<u8>>, frames: FrameList) -> PlainApi
-        requires held { core.held ≡ [] }
+impl<P: Payload<Home: Drop>> PlainApi<P> {
+    /// A core that has made no event yet, its Home, and the frames that are to be fed to it.
+    pub fn new(alloc: Global, core: Core<P>, home: P::Home, frames: FrameList) -> PlainApi<P>
+        requires never { NeverRefuses P.home_seen P.may_refuse }
+        requires held { held_by core ≡ [] }
         requires short { All IsBody frames }
         ensures { result ≡ record { state = core.state; left = frames; entries = [] } }
     {
         PlainApi {
             core,
+            home,
             left: frames.into_vec().into_iter(),
             entries: Vec::new(alloc),
         }
@@ -52,7 +58,13 @@ impl PlainApi {
     pub fn into_entries(self) -> Vec<Entry>
         ensures { result.items ≡ self.entries }
     {
-        let PlainApi { entries, .. } = self;
+        let PlainApi {
+            core,
+            mut home,
+            entries,
+            ..
+        } = self;
+        core.finish(&mut home);
         entries
     }
 
@@ -69,12 +81,28 @@ impl PlainApi {
         self.left.len()
     }
 
-    /// Makes one event and answers the number of its entry, counted from 1.
-    fn make(&mut self, alloc: Global, actor: u32, event: Event<Vec<u8>>) -> Result<u32, AllocError>
-        requires { All (λ v. IsBody v.items) (payloads_in event) }
-        ensures { IfOk result (λ n. (self.new ≡ made self.old actor (text_of ⟦<Vec<u8> as Payload>⟧.seen event ∷ [])) × (n ≡ length self.old.entries + 1)) }
+    /// Feeds a frame and answers the number of its entry, counted from 1.
+    fn feed(&mut self, alloc: Global, actor: u32, octets: &[u8]) -> Result<u32, AllocError>
+        requires { IsBody octets.now }
+        ensures { IfOk result (λ n. (self.new ≡ made self.old actor (Event.Frame octets.now ∷ [])) × (n ≡ length self.old.entries + 1)) }
     {
-        let (entry, _) = match self.core.step(alloc, actor, event, &mut ()) {
+        let frame = made_frame(alloc, &mut self.home, octets)?;
+        let (entry, _) = match self
+            .core
+            .step(alloc, actor, Event::Frame(frame), &mut self.home)
+        {
+            Ok(made) => made,
+            Err((none, _)) => return Err(none),
+        };
+        self.entries.push(entry)?;
+        u32::try_from(self.entries.len()).map_err(|_| AllocError)
+    }
+
+    /// Ends the run and answers the number of the entry.
+    fn end(&mut self, alloc: Global, actor: u32) -> Result<u32, AllocError>
+        ensures { IfOk result (λ n. (self.new ≡ made self.old actor (Event.Stop ∷ [])) × (n ≡ length self.old.entries + 1)) }
+    {
+        let (entry, _) = match self.core.step(alloc, actor, Event::Stop, &mut self.home) {
             Ok(made) => made,
             Err((none, _)) => return Err(none),
         };
@@ -93,7 +121,7 @@ impl PlainApi {
     {
         let count = u32::try_from(self.left()).map_err(|_| AllocError)?;
         while let Some(octets) = self.next_frame() {
-            let number = self.make(alloc, actor, Event::Frame(octets.into_vec()))?;
+            let number = self.feed(alloc, actor, octets.as_slice())?;
             seen.push(Evidence::At(number))?;
         }
         Ok(Outcome::Fed(count))
@@ -108,13 +136,33 @@ impl PlainApi {
     ) -> Result<Outcome, AllocError>
         ensures { IfOk result (λ outcome. (self.new ≡ made self.old actor (Event.Stop ∷ [])) × (seen.new.items ≡ seen.old.items ++ Evidence.At (length self.old.entries + 1) ∷ []) × (outcome ≡ Outcome.Ok)) }
     {
-        let number = self.make(alloc, actor, Event::Stop)?;
+        let number = self.end(alloc, actor)?;
         seen.push(Evidence::At(number))?;
         Ok(Outcome::Ok)
     }
 }
 
-impl Api for PlainApi {
+/// A payload of POOL with the octets of a frame, out of a Home that refuses none. What is owned by
+/// others stays so.
+fn made_frame<P: Payload>(
+    alloc: Global,
+    home: &mut P::Home,
+    octets: &[u8],
+) -> Result<P, AllocError>
+    requires never { NeverRefuses P.home_seen P.may_refuse }
+    requires short { IsBody octets.now }
+    ensures octets { IfOk result (λ p. (P.seen p).octets ≡ octets.now) }
+    ensures owned { IfOk result (λ p. (held : List P) → IsOwned (P.home_seen home.old) (total P.seen (P.home_seen home.old).pools.family held)
+        → IsOwned (P.home_seen home.new) (total P.seen (P.home_seen home.new).pools.family (p ∷ held))) }
+{
+    match P::make(alloc, home, Kind::Pool, octets) {
+        Ok(payload) => Ok(payload),
+        Err(MakeFault::NoMemory) => Err(AllocError),
+        Err(MakeFault::TooLong) | Err(MakeFault::Empty(_)) => unreachable!(),
+    }
+}
+
+impl<P: Payload<Home: Drop>> Api for PlainApi<P> {
     ghost use Rattle.lw_rules.specs.Schedule.{Configuration};
     ghost use Rattle.lwip_run.specs.Plain.{plain_gives};
 

@@ -1,14 +1,14 @@
 use Rattle.std.proofs.Common.{◌+◌, refl, ap, ◌∙◌, arith}
-use Rattle.lw_reass.proofs.Ages.{aging_none, aging_stays, aging_ends, aging_all, aging_room, aging_young, same_age}
+use Rattle.lw_reass.proofs.Ages.{aging_none, aging_stays, aging_ends, aging_all, given_all, aging_room, aging_young, same_age}
 use Rattle.lw_reass.proofs.table.age_all.Goals as goal
 
 pub loop-place-init : goal.loop-place-init
 loop-place-init g c =
-    record { aging = aging_none g.P.Payload.seen c.args.opens.now.items c.args.gone.now.items _ c.requires.room; room = refl; same = refl }
+    record { aging = aging_none g.P.Payload.seen c.args.opens.now.items c.args.gone.now.items _ c.requires.each c.requires.room; room = refl; same = refl }
 
 pub overflow_add-age : goal.overflow_add-age
 overflow_add-age g c =
-    let young = aging_young g.P.Payload.seen c.args.opens.now.items c.loop-place.opens.items c.loop-place.place c.args.gone.now.items c.loop-place.gone.items _ c.index.result.now c.loop-place.invariant.aging c.requires.each (omega arith) c.index.ensures in
+    let young = aging_young g.P.Payload.seen c.args.opens.now.items c.loop-place.opens.items c.loop-place.place c.args.gone.now.items c.loop-place.gone.items _ c.index.result.now c.loop-place.invariant.aging (omega arith) c.index.ensures in
     omega arith
 
 pub loop-place-preserved-then-age-lt-OLDEST : goal.loop-place-preserved-then-age-lt-OLDEST
@@ -24,7 +24,9 @@ loop-place-preserved-then-age-lt-OLDEST g c =
 
 pub give-requires : goal.give-requires
 give-requires g c =
-    let room = aging_room g.P.Payload.seen c.args.opens.now.items c.loop-place.opens.items c.loop-place.place c.args.gone.now.items c.loop-place.gone.items _ c.remove-datagram.result c.loop-place.invariant.aging (omega arith) c.remove-datagram.ensures.value in
+    let age = same_age c.loop-place.opens.items c.loop-place.place c.index.result.now c.remove-datagram.result (omega arith) c.index.ensures c.remove-datagram.ensures.value in
+    let room = aging_room g.P.Payload.seen c.args.opens.now.items c.loop-place.opens.items c.loop-place.place c.args.gone.now.items c.loop-place.gone.items _ c.remove-datagram.result c.loop-place.invariant.aging (omega arith) c.remove-datagram.ensures.value
+    (let old = c.if-age-lt-OLDEST.false in omega arith) in
     let same = c.loop-place.invariant.room in
     omega arith
 
@@ -39,6 +41,10 @@ loop-place-preserved g c =
       same = c.remove-datagram.ensures.capacity ∙ c.loop-place.invariant.same;
     }
 
-pub returns-clause-datagrams : goal.returns-clause-datagrams
-returns-clause-datagrams g c =
+pub returns-clause-opens : goal.returns-clause-opens
+returns-clause-opens g c =
     aging_all g.P.Payload.seen c.args.opens.now.items c.loop-place.opens.items c.loop-place.place c.args.gone.now.items c.loop-place.gone.items _ c.loop-place.invariant.aging (let done = c.loop-place-test.false in omega arith)
+
+pub returns-clause-given : goal.returns-clause-given
+returns-clause-given g c =
+    given_all g.P.Payload.seen c.args.opens.now.items c.loop-place.opens.items c.loop-place.place c.args.gone.now.items c.loop-place.gone.items _ c.loop-place.invariant.aging (let done = c.loop-place-test.false in omega arith)

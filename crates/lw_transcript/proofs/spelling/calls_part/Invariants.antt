@@ -4,4 +4,4 @@ use Rattle.lw_transcript.specs.Transcript.{call_lines, numbered}
 use Rattle.lw_transcript.proofs.spelling.calls_part.Given as goal
 
 abbrev pub invariant-loop-place : goal.invariant-loop-place
-invariant-loop-place l = Prints l.initial.page l.page (numbered call_lines 1 (take l.place l.calls))
+invariant-loop-place g l = Prints (g.K.Sink.seen l.fn.sink) (g.K.Sink.seen l.sink) l.fn.page l.page (numbered call_lines 1 (take l.place l.calls))

@@ -5,4 +5,4 @@ use Rattle.lw_transcript.specs.Transcript.{core_lines}
 use Rattle.lw_transcript.proofs.spelling.core_part.Given as goal
 
 abbrev pub invariant-loop-line : goal.invariant-loop-line
-invariant-loop-line l = Prints l.initial.page l.page (flat_map core_lines (take l.line-index l.lines))
+invariant-loop-line g l = Prints (g.K.Sink.seen l.fn.sink) (g.K.Sink.seen l.sink) l.fn.page l.page (flat_map core_lines (take l.line-index l.lines))

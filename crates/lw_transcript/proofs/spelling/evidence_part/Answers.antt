@@ -7,7 +7,7 @@ use Rattle.lw_transcript.proofs.Printing.{Prints-each, Prints-whole}
 use Rattle.lw_transcript.proofs.spelling.evidence_part.Goals as goal
 
 pub loop-evidence-preserved : goal.loop-evidence-preserved
-loop-evidence-preserved c =
+loop-evidence-preserved g c =
     let seen = c.args.seen.now in
     let i = c.loop-evidence.evidence-index in
     let inside = c.loop-evidence-test.true in
@@ -15,6 +15,6 @@ loop-evidence-preserved c =
     c.loop-evidence.invariant c.evidence_line.ensures
 
 pub returns : goal.returns
-returns c =
+returns g c =
     Prints-whole (flat_map evidence_text) c.args.seen.now c.loop-evidence.evidence-index c.loop-evidence-test.false
     c.loop-evidence.invariant

@@ -5,4 +5,4 @@ use Rattle.lw_transcript.specs.Transcript.{evidence_text}
 use Rattle.lw_transcript.proofs.spelling.evidence_part.Given as goal
 
 abbrev pub invariant-loop-evidence : goal.invariant-loop-evidence
-invariant-loop-evidence l = Prints l.initial.page l.page (flat_map evidence_text (take l.evidence-index l.seen))
+invariant-loop-evidence g l = Prints (g.K.Sink.seen l.fn.sink) (g.K.Sink.seen l.sink) l.fn.page l.page (flat_map evidence_text (take l.evidence-index l.seen))

@@ -5,4 +5,4 @@ use Rattle.lw_transcript.specs.Transcript.{out_text}
 use Rattle.lw_transcript.proofs.spelling.out_part.Given as goal
 
 abbrev pub invariant-loop-octets : goal.invariant-loop-octets
-invariant-loop-octets l = Prints l.initial.page l.page (flat_map out_text (take l.octets-index l.outs))
+invariant-loop-octets g l = Prints (g.K.Sink.seen l.fn.sink) (g.K.Sink.seen l.sink) l.fn.page l.page (flat_map out_text (take l.octets-index l.outs))

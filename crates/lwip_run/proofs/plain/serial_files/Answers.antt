@@ -1,3 +1,4 @@
+use Rattle.std.proofs.Common.{List, ℕ}
 use Rattle.lw_pcap.proofs.CaptureLaws.{capture_short}
 use Rattle.lw_rules.proofs.LegalLaws.{serial_is_legal}
 use Rattle.lwip_run.specs.declared.refusal.Refusal.TheVariants.{NoMemory}

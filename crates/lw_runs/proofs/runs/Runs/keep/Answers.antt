@@ -1,6 +1,7 @@
 use Rattle.std.proofs.Common.{refl, ap, arith}
 use Rattle.lw_runs.specs.Lists.{put}
 use Rattle.lw_runs.proofs.RunsLaws.{keeps, run_at}
+use Rattle.lw_runs.proofs.Stands.{Stand-runs}
 use Rattle.lw_runs.proofs.runs.Runs.keep.Goals as goal
 
 pub overflow_add-self : goal.overflow_add-self
@@ -79,4 +80,4 @@ returns g c =
       free = c.requires.free;
       family = c.requires.family;
     }) c.parts-parts.ensures.exact c.parts-parts.ensures.few c.put.ensures in
-    record { octets = kept.seen_octets; bodies = kept.holds; number = kept.one_more }
+    record { octets = kept.seen_octets; bodies = kept.holds; number = kept.one_more; stand = Stand-runs g.P.Payload.seen 0 c.put.new.self.runs kept.are.order }

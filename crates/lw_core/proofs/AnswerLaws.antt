@@ -1,0 +1,147 @@
+-- What the serial step does to an ARP request and to an echo request.
+use Rattle.std.proofs.Common.{◌≡◌, ℕ, ◌+◌, ◌-◌, ◌*◌, ◌%◌, ◌^◌, ◌≤◌, ◌<◌, ◌++◌, ◌∙◌, ◌==◌, ◌&&◌, ◌||◌, not, Bool, true, false, Option, Some, None, List, [], ◌∷◌, Ok, zero, suc, map, length, take, drop, replicate, slice_index, slice_range, refl, sym, ap, subst, arith, append_assoc, length-append, ne_eqb}
+use Rattle.std.specs.Prelude.{nat_eq, if◌then◌else◌}
+use Rattle.std.proofs.lemmas.List.{take_all}
+use Rattle.std.proofs.lemmas.Bool.{eq-eqb}
+use Rattle.lw_base.specs.declared.addresses.Ip.{Ip}
+use Rattle.lw_base.specs.declared.addresses.Mac.{Mac}
+use Rattle.lw_base.specs.declared.addresses.Net.{Net}
+use Rattle.lw_base.specs.declared.heads.ArpPacket.{ArpPacket}
+use Rattle.lw_base.specs.declared.heads.EthHead.{EthHead}
+use Rattle.lw_base.specs.declared.heads.IcmpHead.{IcmpHead}
+use Rattle.lw_base.specs.declared.heads.IpHead.{IpHead}
+use Rattle.lw_netif.specs.Route.{route_of}
+use Rattle.lw_netif.specs.Frames.{frames_left}
+use Rattle.lw_arp.specs.declared.entries.EntryState.TheVariants.{Stable}
+use Rattle.lw_arp.specs.Neighbours.{is_answered, learnt, released, state_of}
+use Rattle.lw_icmp.specs.Messages.{echo_answer, echo_reply, echo_request}
+use Rattle.lw_wire.specs.Eth.{eth_of, eth_spelling, HasEthSpelling}
+use Rattle.lw_wire.specs.Arp.{arp_of, arp_spelling, HasArpSpelling}
+use Rattle.lw_wire.specs.Ip.{ip_of, ip_spelling, FitsIp, HasIpSpelling}
+use Rattle.lw_wire.specs.Icmp.{icmp_of, icmp_spelling, HasIcmpSpelling}
+use Rattle.lw_wire.proofs.ArpLaws.{arp-read_back}
+use Rattle.lw_wire.proofs.IpLaws.{ip-read_back}
+use Rattle.lw_wire.proofs.IcmpLaws.{icmp-read_back}
+use Rattle.lw_link.specs.Way.{Link, Way, arp_answer, arp_input, arp_reply, emit, knows, packet_frame, released_to, sends, sent_head, takes_id}
+use Rattle.lw_core.specs.declared.arrival.Arrival.{Arrival}
+use Rattle.lw_core.specs.declared.arrival.Arrival.TheVariants.{Arp, Datagram, Nothing}
+use Rattle.lw_core.specs.Arrivals.{arrival_of, arp_brings, data_brings, data_in, datagram_brings, header_in}
+use Rattle.lw_core.specs.Datagrams.{is_accepted, is_fragment, is_sender}
+use Rattle.lw_core.specs.Input.{begun, ip_input, moved, reply_to}
+use Rattle.lw_core.specs.Laws.{ArpLaw, AsksForUs, EchoLaw, IsForUs, ReachesUs}
+use Rattle.lw_core.specs.State.{State}
+use Rattle.lw_core.specs.Step.{frame_step, going}
+use Rattle.lw_core.proofs.FrameLaws.{data_at, frame-brings, one_frame, taken}
+
+-- the first of a list is among the first n
+first_goes : {A : Type 0} (n : ℕ) (x : A) (xs : List A) → 0 < n → (others : List A) × (take n (x ∷ xs) ≡ x ∷ others)
+first_goes zero x xs some = absurd (omega arith)
+first_goes (suc n) x xs some = (take n xs, refl)
+
+-- what goes out behind a frame
+behind : (w : Way) (mac : Mac) (o : Option (List ℕ)) (frame : List ℕ) → w.out ≡ frame ∷ [] → (others : List (List ℕ)) × ((released_to w mac o).out ≡ frame ∷ others)
+behind w mac None frame is = ([], is)
+behind w mac (Some octets) frame is = (packet_frame w.link.net mac octets ∷ [], ap (λ (out : List (List ℕ)). out ++ packet_frame w.link.net mac octets ∷ []) is)
+
+-- a packet that asks for the own address is answered
+answered : (net : Net) (p : ArpPacket) → AsksForUs net p → is_answered net.ip p ≡ true
+answered net p asks =
+    let other : (p.sip.0 == net.ip.0) ≡ false = ne_eqb p.sip.0 net.ip.0 asks.other in
+    let target : (p.tip.0 == net.ip.0) ≡ true = eq-eqb p.tip.0 net.ip.0 (ap (λ (ip : Ip). ip.0) asks.target) in
+    let op : (p.op == 1) ≡ true = eq-eqb p.op 1 asks.op in
+    rw (other, target, op) refl
+
+-- what an ARP packet sends that is answered
+arp_out : (w : Way) (p : ArpPacket) → w.out ≡ [] → is_answered w.link.net.ip p ≡ true
+    → (others : List (List ℕ)) × ((arp_input w p).out ≡ arp_reply w.link.net p ∷ others)
+arp_out w p none is =
+    behind (arp_answer (knows w (learnt w.link.net.ip w.link.neighbours p)) p) p.smac (released w.link.net.ip w.link.neighbours p) (arp_reply w.link.net p)
+    (rw (is, none) refl)
+
+-- an ARP request brings itself
+arp_arrives : (net : Net) (e : EthHead) (p : ArpPacket) (padding : List ℕ) → IsForUs net e 0x0806 → HasArpSpelling p
+    → arrival_of net (eth_spelling e ++ (arp_spelling p ++ padding)) ≡ Arp p
+arp_arrives net e p padding us fits =
+    frame-brings net e (arp_spelling p ++ padding) us.spelled (taken net e.dst us.dst)
+    ∙ ap (λ (t : ℕ). data_brings net t (arp_spelling p ++ padding)) us.kind
+    ∙ ap arp_brings (arp-read_back p padding fits).0
+
+pub arp-answered : ArpLaw
+arp-answered s e p padding us asks some =
+    let frame : List ℕ = eth_spelling e ++ (arp_spelling p ++ padding) in
+    let brings = arp_arrives s.link.net e p padding us asks.spelled in
+    let out = arp_out (begun s) p refl (answered s.link.net p asks) in
+    let first = first_goes (frames_left s.sent) (arp_reply s.link.net p) out.0 some in
+    (first.0, ap (λ (a : Arrival). going s (moved s frame a).way.out) brings ∙ ap (take (frames_left s.sent)) out.1 ∙ first.1)
+
+-- a datagram for the own address is taken
+accepted : (net : Net) (h : IpHead) (n : ℕ) → ReachesUs net h n → is_accepted net h ≡ true
+accepted net h n us =
+    let own : (h.dst.0 == net.ip.0) ≡ true = eq-eqb h.dst.0 net.ip.0 (ap (λ (ip : Ip). ip.0) us.dst) in
+    rw (own, us.src) refl
+
+-- it brings its header
+datagram_arrives : (net : Net) (e : EthHead) (h : IpHead) (body padding : List ℕ) → IsForUs net e 0x0800 → ReachesUs net h (length body)
+    → arrival_of net (eth_spelling e ++ (ip_spelling h ++ body ++ padding)) ≡ Datagram h
+datagram_arrives net e h body padding us reaches =
+    frame-brings net e (ip_spelling h ++ body ++ padding) us.spelled (taken net e.dst us.dst)
+    ∙ ap (λ (t : ℕ). data_brings net t (ip_spelling h ++ body ++ padding)) us.kind
+    ∙ ap (datagram_brings net) (ip-read_back h body padding reaches.fits reaches.spelled).0
+    ∙ ap (λ (b : Bool). if b then Datagram h else Nothing) (accepted net h (length body) reaches)
+
+-- an Ethernet head has fourteen octets, and a message eight more than its data
+eth_long : (e : EthHead) → HasEthSpelling e → length (eth_spelling e) ≡ 14
+eth_long e fits = simp length-append (let dst = fits.dst in let src = fits.src in omega arith)
+
+icmp_long : (h : IcmpHead) (text : List ℕ) → length (icmp_spelling h text) ≡ 8 + length text
+unfolding icmp_spelling
+icmp_long h text = omega arith
+
+-- its data is what was written
+body_arrives : (e : EthHead) (h : IpHead) (body padding : List ℕ) → HasEthSpelling e → FitsIp h (length body) → HasIpSpelling h
+    → data_in (eth_spelling e ++ (ip_spelling h ++ body ++ padding)) h ≡ body
+body_arrives e h body padding long fits spelled =
+    data_at (eth_spelling e) (ip_spelling h ++ body ++ padding) h.head_len h.total (length body) (eth_long e long) fits.head_len fits.total
+    ∙ (ip-read_back h body padding fits spelled).1
+
+-- an echo request is answered by its own data
+echoed : (numbers : ℕ) (text : List ℕ) → numbers < 2 ^ 32 → ((i : ℕ) → slice_index text i < 256)
+    → echo_reply (echo_request numbers text) ≡ Some (echo_answer numbers text)
+echoed numbers text fits small =
+    let read = icmp-read_back (record { kind = 8; code = 0; rest = numbers }) text (record { kind = omega arith; code = omega arith; rest = fits }) small in
+    rw (read.0, read.1) refl
+
+-- what a datagram with an echo request sends
+echo_out : (net : Net) (w : Way) (h : IpHead) (n numbers : ℕ) (header text : List ℕ) → ReachesUs net h n → numbers < 2 ^ 32 → ((i : ℕ) → slice_index text i < 256)
+    → ip_input net w h header (echo_request numbers text) ≡ emit true w (sent_head net 1 h.src) (echo_answer numbers text)
+echo_out net w h n numbers header text us fits small =
+    let own : (h.dst.0 == net.ip.0) ≡ true = eq-eqb h.dst.0 net.ip.0 (ap (λ (ip : Ip). ip.0) us.dst) in
+    let icmp : (h.proto == 1) ≡ true = eq-eqb h.proto 1 us.proto in
+    rw (own, icmp, echoed numbers text fits small) refl
+
+-- it isn't a fragment
+whole : (net : Net) (h : IpHead) (n : ℕ) → ReachesUs net h n → is_fragment h ≡ false
+whole net h n us =
+    let first : (h.offset == 0) ≡ true = eq-eqb h.offset 0 us.first in
+    rw (us.whole, first) refl
+
+pub echo-answered : EchoLaw
+echo-answered s e h numbers text padding hop mac us reaches_short fits few small near known some =
+    let net : Net = s.link.net in
+    let request : List ℕ = echo_request numbers text in
+    let answer : List ℕ = echo_answer numbers text in
+    let frame : List ℕ = eth_spelling e ++ (ip_spelling h ++ request ++ padding) in
+    let size : 8 + length text ≡ length request = sym (icmp_long (record { kind = 8; code = 0; rest = numbers }) text) in
+    let reaches = subst (λ (n : ℕ). ReachesUs net h n) size reaches_short in
+    let brings = datagram_arrives net e h request padding us reaches in
+    let body = body_arrives e h request padding us.spelled reaches.fits reaches.spelled in
+    let input : (moved s frame (Datagram h)).way ≡ emit true (begun s) (sent_head net 1 h.src) answer =
+        rw (whole net h (length request) reaches)
+        (ap (ip_input net (begun s) h (header_in frame h)) body ∙ echo_out net (begun s) h (length request) numbers (header_in frame h) text reaches fits small) in
+    let long : length answer ≡ 8 + length text = icmp_long (record { kind = 0; code = 0; rest = numbers }) text in
+    let out = one_frame (begun s) (sent_head net 1 h.src) answer hop mac (omega arith) near known in
+    let total : 20 + length answer ≡ 28 + length text = omega arith in
+    ap (λ (a : Arrival). going s (moved s frame a).way.out) brings
+    ∙ ap (λ (w : Way). going s w.out) (input ∙ out)
+    ∙ take_all (frames_left s.sent) (packet_frame net mac (ip_spelling (record (sent_head net 1 h.src) { total = 20 + length answer; id = s.link.next_id }) ++ answer) ∷ []) (omega arith)
+    ∙ ap (λ (n : ℕ). packet_frame net mac (ip_spelling (record (sent_head net 1 h.src) { total = n; id = s.link.next_id }) ++ answer) ∷ []) total

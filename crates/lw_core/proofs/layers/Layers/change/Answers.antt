@@ -1,0 +1,9 @@
+use Rattle.std.proofs.Common.{◌∙◌, sym, ap}
+use Rattle.lw_arp.specs.Neighbours.{map_entries}
+use Rattle.lw_arp.proofs.MapLaws.{taught-map_entries}
+use Rattle.lw_core.proofs.layers.Layers.change.Goals as goal
+
+pub returns-in-Learn-clause-neighbours : goal.returns-in-Learn-clause-neighbours
+returns-in-Learn-clause-neighbours g c =
+    ap (map_entries (λ p. (g.P.Payload.seen p).octets)) c.learn.ensures.table
+    ∙ sym (taught-map_entries (λ p. (g.P.Payload.seen p).octets) c.in-Learn.plan.lesson c.args.self.now.neighbours c.in-Learn.plan.ip c.in-Learn.plan.mac)

@@ -1,0 +1,5 @@
+use Rattle.lw_core.proofs.SoundLaws.{tied}
+use Rattle.lw_core.proofs.step.Core.tie.Goals as goal
+
+pub returns : goal.returns
+returns g c = tied g.P.Payload.seen c.self.inside.layers c.args.self.now c.self.view_is c.self.invariant c.tie.ensures

@@ -1,0 +1,16 @@
+//! Laws of the serial step, in the words of its subject.
+ghost use Rattle.lw_core.specs.Laws.{ArpLaw, EchoLaw};
+
+/// An ARP request for the own address is answered to its sender (RFC 826): the reply is the first frame
+/// that goes out.
+pub fn arp_request_is_answered()
+    ensures { ArpLaw }
+{
+}
+
+/// An echo request to the own address, from a sender whose next hop is known, gets exactly one reply,
+/// with its identifier, its sequence number and its data (RFC 792).
+pub fn echo_request_is_answered()
+    ensures { EchoLaw }
+{
+}

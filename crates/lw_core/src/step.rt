@@ -1,0 +1,178 @@
+//! One event of the core.
+ghost use Rattle.std.specs.Prelude.{◌≡◌, [], ◌∷◌, ◌++◌, false, true, IfErr, IfOk, OnOk, OnErr, IfSome, MatchOption};
+ghost use Rattle.lw_payload.specs.declared.kinds.Kind.{Kind};
+ghost use Rattle.lw_payload.specs.Views.{IsShort};
+ghost use Rattle.lw_payload.specs.Calls.{IsSameButRoom};
+ghost use Rattle.lw_payload.specs.Totals.{total, IsOwned, Moves};
+ghost use Rattle.lw_events.specs.Events.{payloads_in, text_of, IsSameEvent};
+ghost use Rattle.lw_events.specs.declared.event.Event.{Event};
+ghost use Rattle.lw_arp.specs.Neighbours.{packets};
+ghost use Rattle.lw_core.specs.State.{opening};
+ghost use Rattle.lw_core.specs.History.{IsStep};
+ghost use Rattle.lw_core.specs.Held.{held_by, IsSameCore, IsTied, MakesRam, RamIsShort};
+
+use crate::NoMemory;
+use crate::layers::{Layers, Words};
+use crate::receive::{Received, nothing};
+use lw_arp::{ArpEntry, ArpTable};
+use lw_base::{Limits, Octets};
+use lw_events::{Entry, Event, PostList, Reply};
+use lw_netif::{Netif, Sent};
+use lw_payload::{Payload, octets_of, spend_all, spend_if};
+use lw_reass::Reass;
+use std::alloc::Global;
+use std::marker::Model;
+
+/// A stack over payloads. Contracts see it as its state and the payloads that it holds.
+#[derive(Drop)]
+pub struct Core<P: Payload> {
+    layers: Layers<P>,
+}
+
+impl<P: Payload> Model for Core<P> {
+    ghost use Rattle.lw_core.specs.Held.{CoreSeen};
+
+    ghost Value = { CoreSeen P };
+
+    ghost use Rattle.lw_arp.specs.Neighbours.{packets};
+    ghost use Rattle.lw_reass.specs.Table.{all_kept};
+    ghost use Rattle.lw_link.specs.Sound.{IsSoundWay};
+    ghost use Rattle.lw_core.specs.Input.{begun};
+    ghost use Rattle.lw_core.specs.Layers.{state_of};
+
+    ghost view = { λ c. record { state = state_of P.seen c.layers; waiting = packets c.layers.neighbours; kept = c.layers.fragments.kept } };
+
+    ghost invariant = { λ c. IsSoundWay (begun (state_of P.seen c.layers)) };
+}
+
+impl<P: Payload> Core<P> {
+    /// A stack that made no event yet, with this interface.
+    pub fn new(alloc: Global, netif: Netif, limits: Limits) -> Result<Core<P>, NoMemory>
+        ensures state { IfOk result (λ c. c.state ≡ opening netif limits) }
+        ensures held { IfOk result (λ c. held_by c ≡ []) }
+    {
+        Ok(Core {
+            layers: Layers {
+                limits,
+                netif,
+                neighbours: ArpTable::new(alloc)?,
+                next_id: 0,
+                fragments: Reass::new(alloc)?,
+                sent: Sent::new(),
+                words: Words {
+                    frames: 0,
+                    stopped: false,
+                },
+            },
+        })
+    }
+
+    /// Makes one event of an actor. All memory is taken before anything changes; an event that comes
+    /// back is the same. What the event brought and the stack doesn't keep goes to the Home.
+    pub fn step(
+        &mut self,
+        alloc: Global,
+        actor: u32,
+        event: Event<P>,
+        home: &mut P::Home,
+    ) -> Result<(Entry, Reply), (NoMemory, Event<P>)>
+        requires owned { IsOwned (P.home_seen home.old) (total P.seen (P.home_seen home.old).pools.family (payloads_in event ++ held_by self.old)) }
+        requires ram { MakesRam (P.home_seen home.old) }
+        ensures ok { IfOk result (λ r. IsStep self.old.state actor (text_of P.seen event) r.0 r.1 self.new.state) }
+        ensures moves { OnOk result (Moves (P.home_seen home.old) (P.home_seen home.new) (total P.seen (P.home_seen home.old).pools.family (payloads_in event ++ held_by self.old)) (total P.seen (P.home_seen home.old).pools.family (held_by self.new))) }
+        ensures short { IfOk result (λ r. r.0.short ≡ true → RamIsShort P.may_refuse home.old (P.home_seen home.old)) }
+        ensures enough { IfOk result (λ r. r.0.short ≡ false → (frame : P) → event ≡ Event.Frame frame → ¬ (IsShort (P.home_seen home.old) Kind.Ram 1)) }
+        ensures event { IfErr result (λ r. IsSameEvent P.seen event r.1) }
+        ensures err { IfErr result (λ _. IsSameCore P.seen self.old self.new × (P.home_seen home.new ≡ P.home_seen home.old)) }
+    {
+        match event {
+            Event::Frame(frame) => self.frame(alloc, actor, frame, home),
+            Event::Stop => {
+                self.layers.words.stopped = true;
+                Ok(entry(actor, Event::Stop, nothing(alloc, false)))
+            }
+        }
+    }
+
+    fn frame(
+        &mut self,
+        alloc: Global,
+        actor: u32,
+        mut frame: P,
+        home: &mut P::Home,
+    ) -> Result<(Entry, Reply), (NoMemory, Event<P>)>
+        requires owned { IsOwned (P.home_seen home.old) (total P.seen (P.home_seen home.old).pools.family (frame ∷ held_by self.old)) }
+        requires ram { MakesRam (P.home_seen home.old) }
+        ensures ok { IfOk result (λ r. IsStep self.old.state actor (Event.Frame (P.seen frame).octets) r.0 r.1 self.new.state) }
+        ensures moves { OnOk result (Moves (P.home_seen home.old) (P.home_seen home.new) (total P.seen (P.home_seen home.old).pools.family (frame ∷ held_by self.old)) (total P.seen (P.home_seen home.old).pools.family (held_by self.new))) }
+        ensures short { IfOk result (λ r. r.0.short ≡ true → RamIsShort P.may_refuse home.old (P.home_seen home.old)) }
+        ensures enough { IfOk result (λ r. r.0.short ≡ false → ¬ (IsShort (P.home_seen home.old) Kind.Ram 1)) }
+        ensures event { IfErr result (λ r. IsSameEvent P.seen (Event.Frame frame) r.1) }
+        ensures err { IfErr result (λ _. IsSameCore P.seen self.old self.new × (P.home_seen home.new ≡ P.home_seen home.old)) }
+    {
+        let octets = match octets_of(alloc, &frame) {
+            Ok(octets) => octets,
+            Err(none) => return Err((none, Event::Frame(frame))),
+        };
+        match self.layers.receive(alloc, home, frame, octets.as_slice()) {
+            Ok(made) => Ok(entry(actor, Event::Frame(octets), made)),
+            Err((none, frame)) => Err((none, Event::Frame(frame))),
+        }
+    }
+
+    /// What the stack holds is what its state tells: the payloads have the octets of the packets that
+    /// wait and of the fragments that are kept, and none is empty.
+    pub fn tie(&self)
+        ensures { IsTied P.seen self.now }
+    {
+        self.layers.fragments.tie();
+    }
+
+    /// Gives up all that is held. Without memory for the list of it nothing is promised of it.
+    pub fn finish(self, alloc: Global, home: &mut P::Home) -> Result<(), NoMemory>
+        requires owned { IsOwned (P.home_seen home.old) (total P.seen (P.home_seen home.old).pools.family (held_by self)) }
+        ensures moves { OnOk result (Moves (P.home_seen home.old) (P.home_seen home.new) (total P.seen (P.home_seen home.old).pools.family (held_by self)) (total P.seen (P.home_seen home.old).pools.family [])) }
+    {
+        let Core { layers } = self;
+        let Layers {
+            neighbours,
+            fragments,
+            ..
+        } = layers;
+        let mut kept = Vec::with_capacity(alloc, fragments.kept() as usize)?;
+        fragments.finish(&mut kept);
+        spend_waiting(home, neighbours.into_vec());
+        spend_all(home, kept);
+        Ok(())
+    }
+}
+
+/// Gives up the packets that wait at these entries.
+fn spend_waiting<P: Payload>(home: &mut P::Home, entries: Vec<ArpEntry<P>>)
+    requires owned { IsOwned (P.home_seen home.old) (total P.seen (P.home_seen home.old).pools.family (packets entries.items)) }
+    ensures moves { Moves (P.home_seen home.old) (P.home_seen home.new) (total P.seen (P.home_seen home.old).pools.family (packets entries.items)) (total P.seen (P.home_seen home.old).pools.family []) }
+{
+    for entry in entries {
+        spend_if(home, entry.packet);
+    }
+}
+
+/// The entry of an event that was made, and its reply.
+fn entry(actor: u32, event: Event<Octets>, made: Received) -> (Entry, Reply)
+    ensures { result ≡ (record { actor = actor; event = event; short = made.short; posts = made.posts; frames = made.frames; reply = Reply.Done }, Reply.Done) }
+{
+    let Received {
+        posts,
+        frames,
+        short,
+    } = made;
+    let entry = Entry {
+        actor,
+        event,
+        short,
+        posts,
+        frames,
+        reply: Reply::Done,
+    };
+    (entry, Reply::Done)
+}

@@ -1,0 +1,40 @@
+-- Events over payloads, and what is kept of them.
+use Rattle.std.specs.Prelude.{◌≡◌, ℕ, Bool, true, false, List, [], ◌∷◌, map}
+use Rattle.std.specs.List.{AllZip}
+use Rattle.lw_payload.specs.Views.{View}
+use Rattle.lw_payload.specs.Calls.{IsSameButRoom}
+use Rattle.lw_events.specs.declared.event.Event.{Event}
+use Rattle.lw_events.specs.declared.event.Event.TheVariants.{Frame, Stop}
+use Rattle.lw_events.specs.declared.entry.Post.{Post}
+use Rattle.lw_events.specs.declared.entry.Post.TheVariants.{Item, Full}
+use Rattle.lw_events.specs.declared.entry.Entry.{Entry}
+
+-- an event with the octets of its payload
+abbrev pub text_of : {P : Type 0} → (P → View) → Event P → Event (List ℕ)
+text_of seen (Frame p) = Frame (seen p).octets
+text_of seen Stop = Stop
+
+-- the payload of an event, if it has one
+abbrev pub payloads_in : {P : Type 0} → Event P → List P
+payloads_in (Frame p) = p ∷ []
+payloads_in Stop = []
+
+-- the same event: equal text, and its payload the same but for room
+pub record IsSameEvent {P : Type 0} (seen : P → View) (before after : Event P) : Type 0 where
+  pub text : text_of seen after ≡ text_of seen before
+  pub payloads : AllZip (λ p q. IsSameButRoom (seen p) (seen q)) (payloads_in before) (payloads_in after)
+
+-- a post had a place
+abbrev pub had_place : Post → Bool
+had_place (Item conn ticket text) = true
+had_place (Full conn) = false
+
+-- what the step of an entry was granted: whether the pool was short for it, and for each post in the order tried whether
+-- there was a place. With it the step is determined
+pub record Grants : Type 0 where
+  pub short : Bool
+  pub places : List Bool
+
+-- what an entry tells of its grants
+abbrev pub grants_of : Entry → Grants
+grants_of e = record { short = e.short; places = map had_place e.posts }
