@@ -1,4 +1,5 @@
 mod AnswerLaws
+mod ApplyLaws
 mod CutLaws
 mod FrameLaws
 mod KeepLaws
