@@ -1,5 +1,6 @@
 mod AnswerLaws
 mod ApplyLaws
+mod ClaimLaws
 mod CutLaws
 mod FrameLaws
 mod KeepLaws

@@ -1,6 +1,7 @@
 -- What a plan sends for a datagram that came in, by its protocol.
-use Rattle.std.proofs.Common.{◌≡◌, ◌<◌, ◌-◌, ℕ, ◌==◌, Bool, true, false, List, [], Option, Some, None, Result, OnOk, IfSome, refl, sym, ap, subst, ◌∙◌, if◌then◌else◌}
+use Rattle.std.proofs.Common.{arith, length, drop, slice_range, ◌≡◌, ◌<◌, ◌≤◌, ◌+◌, ◌-◌, ℕ, ◌==◌, Bool, true, false, List, [], Option, Some, None, Result, OnOk, IfSome, refl, sym, ap, subst, ◌∙◌, if◌then◌else◌}
 use Rattle.std.proofs.lemmas.Bool.{eq-eqb, ne_eqb}
+use Rattle.std.proofs.lemmas.List.{length-take, length-drop}
 use Rattle.lw_base.specs.declared.addresses.Ip.{Ip}
 use Rattle.lw_base.specs.declared.addresses.Mac.{Mac}
 use Rattle.lw_base.specs.declared.addresses.Net.{Net}
@@ -92,6 +93,13 @@ arp_planned s frame p learn link is plans none = record {
       (plans (link_with s.link (Learn learn)) refl refl);
   packet = none_waits link none;
 }
+
+-- how many octets the data of a datagram has that its frame holds
+pub data_length : (frame : List ℕ) (head_len total from to : ℕ) → from ≡ head_len → to ≡ total → head_len ≤ total → total ≤ length frame - 14 → length (slice_range frame (14 + from) (14 + to)) ≡ total - head_len
+data_length frame head_len total from to start end some within =
+    let a = length-take ((14 + to) - (14 + from)) (drop (14 + from) frame) in
+    let b = length-drop (14 + from) frame in
+    omega arith
 
 -- a frame with a fragment
 pub fragment_planned : (s : State) (frame : List ℕ) (h : IpHead) (plan : FragmentPlan) (xs : List ℕ) (link : LinkPlan) → is_fragment h ≡ true → xs ≡ data_in frame h → plan ≡ plan_of s.fragments h (h.total - h.head_len)

@@ -1,5 +1,5 @@
 -- The way out stays sound over an event.
-use Rattle.std.proofs.Common.{◌≡◌, ℕ, ◌<◌, ◌^◌, ◌==◌, ◌&&◌, Bool, true, false, List, [], ◌∷◌, All, IfOk, IfSome, Option, Some, None, Result, Ok, Err, arith, drop, length, map, nat_lt, subst, if◌then◌else◌}
+use Rattle.std.proofs.Common.{◌≡◌, ℕ, ◌<◌, ◌^◌, ◌==◌, ◌&&◌, Bool, true, false, List, [], ◌∷◌, All, IfErr, IfOk, IfSome, Option, Some, None, Result, Ok, Err, arith, drop, length, map, nat_lt, subst, sym, if◌then◌else◌}
 use Rattle.std.specs.List.{AllZip, cons_option}
 use Rattle.std.specs.Option.{option_map}
 use Rattle.std.proofs.lemmas.List.{length-take}
@@ -149,3 +149,9 @@ granted_sound s octets true sound = sound
 granted_sound s octets false sound =
     let a = arrival_of s.link.net octets in
     ended_sound (moved s octets a).way (moved_sound s octets a (frame_brings_six s.link.net octets (eth_of octets)) sound)
+
+-- and so does what receives one, or finds no memory for it
+pub received_sound : {A E : Type 0} (s t : State) (octets : List ℕ) (short : A → Bool) (B : E → Type 0) (r : Result A E) → IsSoundWay (begun s) → IfOk r (λ x. t ≡ (frame_granted s octets (short x)).state)
+    → ((e : E) → B e → t ≡ s) → IfErr r B → IsSoundWay (begun t)
+received_sound s t octets short B (Ok x) sound ok same err = subst (λ (y : State). IsSoundWay (begun y)) (sym ok) (granted_sound s octets (short x) sound)
+received_sound s t octets short B (Err e) sound ok same err = subst (λ (y : State). IsSoundWay (begun y)) (sym (same e err)) sound
