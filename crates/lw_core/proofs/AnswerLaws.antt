@@ -136,8 +136,8 @@ echo-answered s e h numbers text padding hop mac us reaches_short fits few small
     let brings = datagram_arrives net e h request padding us reaches in
     let body = body_arrives e h request padding us.spelled reaches.fits reaches.spelled in
     let input : (moved s frame (Datagram h)).way ≡ emit true (begun s) (sent_head net 1 h.src) answer =
-        rw (whole net h (length request) reaches)
-        (ap (ip_input net (begun s) h (header_in frame h)) body ∙ echo_out net (begun s) h (length request) numbers (header_in frame h) text reaches fits small) in
+    rw (whole net h (length request) reaches)
+    (ap (ip_input net (begun s) h (header_in frame h)) body ∙ echo_out net (begun s) h (length request) numbers (header_in frame h) text reaches fits small) in
     let long : length answer ≡ 8 + length text = icmp_long (record { kind = 0; code = 0; rest = numbers }) text in
     let out = one_frame (begun s) (sent_head net 1 h.src) answer hop mac (omega arith) near known in
     let total : 20 + length answer ≡ 28 + length text = omega arith in

@@ -148,9 +148,9 @@ state_applied s octets plan table ds planned table_is ds_is =
     let m : Moved = moved s octets (arrival_of s.link.net octets) in
     let way : Way = m.way in
     let link_is : record { net = s.link.net; neighbours = table; next_id = plan.link.next_id } ≡ way.link =
-        ap (λ (t : List (ArpEntry (List ℕ))). record { net = s.link.net; neighbours = t; next_id = plan.link.next_id }) table_is
-        ∙ ap (λ (n : Net). record { net = n; neighbours = waiting_in (asked_for (link_with s.link plan.change).neighbours plan.link.asked.items) plan.link.waits; next_id = plan.link.next_id }) (sym (link_net s.link plan.change))
-        ∙ ap (λ (w : Way). w.link) planned.sends.made in
+    ap (λ (t : List (ArpEntry (List ℕ))). record { net = s.link.net; neighbours = t; next_id = plan.link.next_id }) table_is
+    ∙ ap (λ (n : Net). record { net = n; neighbours = waiting_in (asked_for (link_with s.link plan.change).neighbours plan.link.asked.items) plan.link.waits; next_id = plan.link.next_id }) (sym (link_net s.link plan.change))
+    ∙ ap (λ (w : Way). w.link) planned.sends.made in
     let fragments_is : ds ≡ m.fragments = ds_is ∙ ap (fragments_with s.fragments octets) planned.change ∙ fragments_moved s octets (arrival_of s.link.net octets) in
     let out_is : plan.link.frames.items ≡ way.out = ap (λ (w : Way). w.out) planned.sends.made in
     ap (λ (l : Link). record { limits = s.limits; link = l; fragments = ds; sent = s.sent ++ take (frames_left s.sent) plan.link.frames.items; words = with_frame s.words }) link_is

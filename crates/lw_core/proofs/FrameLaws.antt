@@ -63,7 +63,7 @@ data_at front octets head_len total n long is_head is_total =
     let size : 14 + total - (14 + head_len) ≡ n = omega arith in
     let place : 14 + head_len ≡ 14 + 20 = omega arith in
     let behind : drop (14 + 20) (front ++ octets) ≡ drop 20 octets =
-        sym (drop-drop 20 14 (front ++ octets)) ∙ ap (drop 20) (drop_at front octets 14 long) in
+    sym (drop-drop 20 14 (front ++ octets)) ∙ ap (drop 20) (drop_at front octets 14 long) in
     rw (size, place, behind) refl
 
 -- a datagram that fits in one packet goes out in one frame, where the next hop is known

@@ -98,9 +98,9 @@ arp_six octets =
     elim (nat_lt (length octets) 28) as (λ b. IfOk (if b then Err Short else (if is_ethernet_ipv4 octets && is_arp_operation (u16_at 6 octets) then Ok (arp_fields octets) else Err BadField)) (λ p. IsSix p.smac)) [
       | true ↦ tt
       | false ↦ elim (is_ethernet_ipv4 octets && is_arp_operation (u16_at 6 octets)) as (λ b. IfOk (if b then Ok (arp_fields octets) else Err BadField) (λ p. IsSix p.smac)) [
-          | true ↦ let part = length-take 6 (drop 8 octets) in omega (arith, part)
-          | false ↦ tt
-        ]
+        | true ↦ let part = length-take 6 (drop 8 octets) in omega (arith, part)
+        | false ↦ tt
+      ]
     ]
 
 arp_brings_six : (r : Result ArpPacket WireFault) → IfOk r (λ p. IsSix p.smac) → IsSixArrival (arp_brings r)
@@ -116,9 +116,9 @@ data_brings_six net ethertype octets =
     elim (ethertype == 0x0806) as (λ b. IsSixArrival (if b then arp_brings (arp_of octets) else (if ethertype == 0x0800 then datagram_brings net (ip_of octets) else Nothing))) [
       | true ↦ arp_brings_six (arp_of octets) (arp_six octets)
       | false ↦ elim (ethertype == 0x0800) as (λ b. IsSixArrival (if b then datagram_brings net (ip_of octets) else Nothing)) [
-          | true ↦ datagram_brings_six net (ip_of octets)
-          | false ↦ tt
-        ]
+        | true ↦ datagram_brings_six net (ip_of octets)
+        | false ↦ tt
+      ]
     ]
 
 frame_brings_six : (net : Net) (octets : List ℕ) (r : Result (EthHead × ℕ) WireFault) → IsSixArrival (frame_brings net octets r)
