@@ -7,7 +7,7 @@ use Rattle.lw_base.specs.declared.heads.ArpPacket.{ArpPacket}
 use Rattle.lw_base.specs.declared.heads.IpHead.{IpHead}
 use Rattle.lw_netif.specs.Frames.{frames_left}
 use Rattle.lw_payload.specs.Views.{View, HomeView, Pools}
-use Rattle.lw_payload.specs.Totals.{total, IsOwned, Moves}
+use Rattle.lw_payload.specs.Totals.{total, Moves}
 use Rattle.lw_payload.proofs.TotalLaws.{Moves-then}
 use Rattle.lw_arp.specs.declared.entries.ArpEntry.{ArpEntry}
 use Rattle.lw_arp.specs.declared.entries.LearnPlan.{LearnPlan}
@@ -30,8 +30,8 @@ use Rattle.lw_core.specs.Datagrams.{is_fragment}
 use Rattle.lw_core.specs.Input.{Moved, begun, by_added, ip_input, moved}
 use Rattle.lw_core.specs.Layers.{change_of, fragments_with, link_with, IsPlanned}
 use Rattle.lw_core.specs.State.{State}
-use Rattle.lw_core.specs.Step.{counted, frame_step, going, with_frame}
-use Rattle.lw_core.proofs.MoveLaws.{family_of, Moves-around, Moves-by, Moves-front, Moves-turned}
+use Rattle.lw_core.specs.Step.{counted, frame_step, with_frame}
+use Rattle.lw_core.proofs.MoveLaws.{Moves-around, Moves-by, Moves-front, Moves-turned}
 
 -- What is planned
 

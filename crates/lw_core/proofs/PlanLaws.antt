@@ -1,5 +1,5 @@
 -- What a plan sends for a datagram that came in, by its protocol.
-use Rattle.std.proofs.Common.{arith, length, drop, slice_range, ◌≡◌, ◌<◌, ◌≤◌, ◌+◌, ◌-◌, ℕ, ◌==◌, Bool, true, false, List, [], Option, Some, None, Result, OnOk, IfSome, refl, sym, ap, subst, ◌∙◌, if◌then◌else◌}
+use Rattle.std.proofs.Common.{arith, length, drop, slice_range, ◌≡◌, ◌≤◌, ◌+◌, ◌-◌, ℕ, true, false, List, [], Option, Some, None, Result, OnOk, IfSome, refl, sym, ap, subst, ◌∙◌}
 use Rattle.std.proofs.lemmas.Bool.{eq-eqb, ne_eqb}
 use Rattle.std.proofs.lemmas.List.{length-take, length-drop}
 use Rattle.lw_base.specs.declared.addresses.Ip.{Ip}
@@ -20,9 +20,7 @@ use Rattle.lw_reass.specs.declared.outcome.Outcome.TheVariants.{Whole}
 use Rattle.lw_reass.specs.Datagrams.{added, plan_of, whole_in}
 use Rattle.lw_core.specs.declared.arrival.Arrival.{Arrival}
 use Rattle.lw_core.specs.declared.arrival.Arrival.TheVariants.{Arp, Datagram, Nothing}
-use Rattle.lw_core.specs.declared.plan.Change.{Change}
 use Rattle.lw_core.specs.declared.plan.Change.TheVariants.{Learn, Keep, Nothing as NoChange}
-use Rattle.lw_core.specs.declared.plan.FramePlan.{FramePlan}
 use Rattle.lw_core.specs.Arrivals.{data_in, header_in}
 use Rattle.lw_core.specs.Datagrams.{is_fragment}
 use Rattle.lw_core.specs.Input.{answering, begun, icmp_output, ip_input, port_answer, reply_to, whole_header, whole_input}

@@ -1,19 +1,16 @@
-use Rattle.std.proofs.Common.{◌≡◌, ◌++◌, ◌∙◌, ℕ, List, Option, IfSome, take, refl, sym, ap, subst}
+use Rattle.std.proofs.Common.{◌≡◌, ◌∙◌, ℕ, List, IfSome, refl, sym, ap, subst}
 use Rattle.lw_base.specs.declared.addresses.Ip.{Ip}
 use Rattle.lw_arp.specs.declared.entries.ArpEntry.{ArpEntry}
 use Rattle.lw_arp.specs.declared.entries.EntryState.TheVariants.{Pending}
 use Rattle.lw_arp.specs.Neighbours.{map_entries, packets, state_of as neighbour_state}
-use Rattle.lw_netif.specs.Frames.{frames_left}
 use Rattle.lw_link.specs.Plans.{waiter}
 use Rattle.lw_link.specs.Way.{asked_for, waiting_in}
 use Rattle.lw_link.proofs.PlanLaws.{over_table, pending_of}
 use Rattle.lw_reass.specs.Table.{all_kept}
-use Rattle.lw_core.specs.declared.layers.Layers.{Layers}
 use Rattle.lw_core.specs.Arrivals.{arrival_of}
 use Rattle.lw_core.specs.Input.{moved}
 use Rattle.lw_core.specs.Layers.{held_in, link_with, state_of}
 use Rattle.lw_core.specs.State.{State}
-use Rattle.lw_core.specs.Step.{counted}
 use Rattle.lw_core.proofs.ApplyLaws.{applied_moves, fragment_by, fresh_by, layers_left, link_net, state_applied, table_of, waits_at}
 use Rattle.lw_core.proofs.layers.Layers.apply.Goals as goal
 

@@ -1,8 +1,8 @@
-use Rattle.std.proofs.Common.{◌≡◌, ◌∙◌, [], List, ℕ, ap, sym}
+use Rattle.std.proofs.Common.{◌∙◌, [], ap, sym}
 use Rattle.lw_base.specs.declared.addresses.Net.{Net}
 use Rattle.lw_arp.specs.Neighbours.{learn_plan}
 use Rattle.lw_arp.proofs.MapLaws.{learn_plan-map_entries}
-use Rattle.lw_link.specs.Way.{Link, arp_answer}
+use Rattle.lw_link.specs.Way.{arp_answer}
 use Rattle.lw_core.proofs.PlanLaws.{arp_planned}
 use Rattle.lw_core.specs.Layers.{state_of}
 use Rattle.lw_core.proofs.layers.Layers.arp_plan.Goals as goal

@@ -1,4 +1,4 @@
-use Rattle.std.proofs.Common.{◌≡◌, ◌+◌, ◌∙◌, ℕ, List, slice_range, refl, sym, ap}
+use Rattle.std.proofs.Common.{◌+◌, ◌∙◌, ℕ, List, slice_range, refl, sym, ap}
 use Rattle.lw_link.proofs.PlanLaws.{over_table}
 use Rattle.lw_base.specs.declared.heads.IpHead.{IpHead}
 use Rattle.lw_reass.specs.Datagrams.{plan_of}

@@ -1,4 +1,4 @@
-use Rattle.std.proofs.Common.{◌^◌, ◌<◌, ◌∙◌, ℕ, Option, Some, IfSome, length, sym, ap, subst}
+use Rattle.std.proofs.Common.{◌^◌, ◌<◌, ◌∙◌, Option, Some, IfSome, length, sym, ap, subst}
 use Rattle.std.specs.Option.{option_map}
 use Rattle.lw_arp.proofs.MapLaws.{waiting-map_entries}
 use Rattle.lw_core.proofs.SoundLaws.{waiting_short}

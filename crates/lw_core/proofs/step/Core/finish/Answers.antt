@@ -1,4 +1,4 @@
-use Rattle.std.proofs.Common.{◌≡◌, ◌++◌, ◌∙◌, List, refl, sym, ap}
+use Rattle.std.proofs.Common.{◌++◌, ◌∙◌, List, sym, ap}
 use Rattle.lw_arp.specs.Neighbours.{packets}
 use Rattle.lw_reass.specs.Table.{all_kept}
 use Rattle.lw_core.specs.Held.{held_by}
