@@ -1,5 +1,4 @@
 pub mod InputLemmas
-pub mod OutputLemmas
 pub mod Feeding
 pub mod PlainCore
 pub mod OneThread

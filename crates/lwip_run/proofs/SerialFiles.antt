@@ -18,14 +18,14 @@ use Rattle.lwip_run.proofs.InputLemmas.{Sees-then}
 -- the script was read, then the capture was looked for
 pub both : (script capture : List ℕ) (before between now : FilesSeen) (says : Script) (P : FileSeen → Type 0) → SeesOne script before between (IsScript says) → SeesOne capture between now P → SeesBoth script capture before now says P
 both script capture before between now says P s c = record {
-      script = s.0;
-      capture = c.0;
-      sees = Sees-then before between now (s.0 ∷ []) (c.0 ∷ []) s.1 c.1;
-      script_named = s.2;
-      capture_named = c.2;
-      script_is = s.3;
-      came = c.3;
-    }
+  script = s.0;
+  capture = c.0;
+  sees = Sees-then before between now (s.0 ∷ []) (c.0 ∷ []) s.1 c.1;
+  script_named = s.2;
+  capture_named = c.2;
+  script_is = s.3;
+  came = c.3;
+}
 
 -- a fault of a later part of a call is one of the call
 later_refused : (before between now : FilesSeen) → before.faults ≤ between.faults → (r : Refusal) (file : FileSeen) → CaptureRefused between now r file → CaptureRefused before now r file
