@@ -4,5 +4,5 @@ mod FrameLaws
 mod KeepLaws
 mod MoveLaws
 mod PlanLaws
-mod SoundLaws
+pub mod SoundLaws
 mod WaitLaws

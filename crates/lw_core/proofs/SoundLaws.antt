@@ -1,11 +1,12 @@
 -- The way out stays sound over an event.
-use Rattle.std.proofs.Common.{◌≡◌, ℕ, ◌<◌, ◌^◌, ◌==◌, ◌&&◌, Bool, true, false, List, [], ◌∷◌, All, IfOk, IfSome, Option, Some, None, Result, Ok, Err, arith, drop, length, map, nat_lt, subst, if◌then◌else◌}
+use Rattle.std.proofs.Common.{◌≡◌, ℕ, ◌≤◌, ◌<◌, ◌^◌, ◌==◌, ◌&&◌, Bool, true, false, List, [], ◌∷◌, All, IfOk, IfSome, Option, Some, None, Result, Ok, Err, arith, drop, length, map, nat_lt, subst, if◌then◌else◌}
 use Rattle.std.specs.List.{AllZip, cons_option}
 use Rattle.std.specs.Option.{option_map}
 use Rattle.std.proofs.lemmas.List.{length-take}
-use Rattle.std.proofs.lemmas.List.Elements.{All-nil, All-cons, All-head, All-tail}
+use Rattle.std.proofs.lemmas.List.Elements.{All-nil, All-cons, All-head, All-tail, All-take}
 use Rattle.lw_base.specs.declared.addresses.Ip.{Ip}
 use Rattle.lw_base.specs.declared.addresses.Net.{Net}
+use Rattle.lw_base.specs.declared.limits.Limits.{Limits}
 use Rattle.lw_base.specs.declared.heads.ArpPacket.{ArpPacket}
 use Rattle.lw_base.specs.declared.heads.EthHead.{EthHead}
 use Rattle.lw_base.specs.declared.heads.IpHead.{IpHead}
@@ -15,6 +16,9 @@ use Rattle.lw_wire.specs.Fields.{u16_at}
 use Rattle.lw_wire.specs.Eth.{eth_of}
 use Rattle.lw_wire.specs.Arp.{arp_fields, arp_of, is_arp_operation, is_ethernet_ipv4}
 use Rattle.lw_wire.specs.Ip.{ip_of}
+use Rattle.lw_events.specs.declared.event.Event.{Event}
+use Rattle.lw_events.specs.declared.event.Event.TheVariants.{Frame, Stop}
+use Rattle.lw_netif.specs.Frames.{frames_left}
 use Rattle.lw_arp.specs.declared.entries.ArpEntry.{ArpEntry}
 use Rattle.lw_arp.specs.declared.entries.Lesson.TheVariants.{Update}
 use Rattle.lw_arp.specs.Neighbours.{map_entries, packets, waiting}
@@ -33,8 +37,9 @@ use Rattle.lw_core.specs.declared.layers.Layers.{Layers}
 use Rattle.lw_core.specs.Held.{CoreSeen, IsTied}
 use Rattle.lw_core.specs.Layers.{state_of}
 use Rattle.lw_core.specs.Input.{begun, by_added, icmp_output, ip_input, moved, reply_to, whole_header, whole_input}
-use Rattle.lw_core.specs.State.{State}
-use Rattle.lw_core.specs.Step.{frame_granted}
+use Rattle.lw_core.specs.State.{State, opening}
+use Rattle.lw_core.specs.Step.{frame_granted, step}
+use Rattle.lw_core.specs.History.{granted}
 
 icmp_sound : (net : Net) (w : Way) (dst : Ip) (message : Option (List ℕ)) → IsSoundWay w → IsSoundWay (icmp_output net w dst message)
 icmp_sound net w dst (Some message) sound = emit_sound true w (sent_head net 1 dst) message sound
@@ -149,3 +154,23 @@ granted_sound s octets true sound = sound
 granted_sound s octets false sound =
     let a = arrival_of s.link.net octets in
     ended_sound (moved s octets a).way (moved_sound s octets a (frame_brings_six s.link.net octets (eth_of octets)) sound)
+
+-- A stack sends short frames
+
+-- a state in which the way out is sound
+abbrev pub IsSoundState : State → Type 0
+IsSoundState s = IsSoundWay (begun s)
+
+pub opening_sound : (net : Net) (limits : Limits) → length net.mac.0 ≤ 6 → IsSoundState (opening net limits)
+opening_sound net limits own = record { own = own; others = All-nil IsSound; frames = All-nil IsShort }
+
+pub step_sound : (s : State) (event : Event (List ℕ)) → IsSoundState s → IsSoundState (step s event granted).state
+step_sound s (Frame octets) sound = granted_sound s octets false sound
+step_sound s Stop sound = sound
+
+pub step_short : (s : State) (event : Event (List ℕ)) → IsSoundState s → All IsShort (step s event granted).frames
+step_short s (Frame octets) sound =
+    let a = arrival_of s.link.net octets in
+    let m = moved s octets a in
+    All-take IsShort (frames_left s.sent) m.way.out (moved_sound s octets a (frame_brings_six s.link.net octets (eth_of octets)) sound).frames
+step_short s Stop sound = All-nil IsShort

@@ -4,5 +4,6 @@ pub mod PlainCore
 pub mod OneThread
 pub mod Fronts
 pub mod Forms
+pub mod AtHome
 pub mod SerialFiles
 pub mod Clauses

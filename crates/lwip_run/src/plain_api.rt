@@ -1,4 +1,4 @@
-ghost use Rattle.std.specs.Prelude.{◌≡◌, ◌+◌, ◌++◌, [], ◌∷◌, All, IfOk, IfSome, List, MatchOption, length};
+ghost use Rattle.std.specs.Prelude.{◌≡◌, ◌+◌, ◌++◌, [], ◌∷◌, All, IfOk, IfSome, List, MatchOption, OnErr, length};
 ghost use Rattle.lw_payload.specs.Totals.{IsOwned, total};
 ghost use Rattle.lw_core.specs.Held.{held_by};
 ghost use Rattle.lw_rules.specs.Schedule.{made, named_from, turn};
@@ -148,6 +148,7 @@ fn made_frame<P: Payload>(alloc: Global, home: &mut P::Home, octets: &[u8]) -> R
     requires never { NeverRefuses P.home_seen P.may_refuse }
     requires short { IsBody octets.now }
     ensures octets { IfOk result (λ p. (P.seen p).octets ≡ octets.now) }
+    ensures err { OnErr result (P.home_seen home.new ≡ P.home_seen home.old) }
     ensures owned { IfOk result (λ p. (held : List P) → IsOwned (P.home_seen home.old) (total P.seen (P.home_seen home.old).pools.family held)
         → IsOwned (P.home_seen home.new) (total P.seen (P.home_seen home.new).pools.family (p ∷ held))) }
 {
