@@ -11,8 +11,14 @@ use Rattle.lw_pcap.specs.declared.fault.PcapFault.{PcapFault}
 use Rattle.lw_pcap.specs.declared.fault.PcapFault.TheVariants.{BadMagic, BadVersion, BadLink, Truncated, TooLong as TooLongFrame, NoMemory as NoMemoryFault}
 use Rattle.lw_pcap.specs.Capture.{CaptureFails}
 use Rattle.lw_pcap.specs.Faults.{fault_at}
-use Rattle.lwip_run.specs.Serial.{CaptureFailsAt, CaptureRefused, IsScript, capture_limit, refusal_of, ScriptRefused, SeesBoth, SerialRefused}
-use Rattle.lwip_run.specs.Comes.{Outside, SerialComes}
+use Rattle.lwip_run.specs.Serial.{CaptureFailsAt, CaptureRefused, IsCapture, IsScript, IsSerialText, capture_limit, refusal_of, ScriptRefused, SeesBoth, SerialRefused}
+use Rattle.lw_outside.specs.Sinks.{SinkSeen}
+use Rattle.lw_transcript.specs.declared.page.WriteFault.TheVariants.{Failed}
+use Rattle.lw_transcript.specs.Page.{Breaks}
+use Rattle.lw_transcript.specs.Transcript.{transcript_spelling}
+use Rattle.lw_rules.specs.Schedule.{serial_transcript}
+use Rattle.lw_rules.proofs.LegalLaws.{serial_is_legal}
+use Rattle.lwip_run.specs.Comes.{Outside, SerialComes, WrotePart}
 use Rattle.lwip_run.proofs.InputLemmas.{Sees-then}
 
 -- the script was read, then the capture was looked for
@@ -79,3 +85,19 @@ capture_fault before now file BadLink read fails = fault_refused file BadLink re
 capture_fault before now file (Truncated at) read fails = fault_refused file (Truncated at) read (λ e. cc) fails
 capture_fault before now file (TooLongFrame at) read fails = fault_refused file (TooLongFrame at) read (λ e. cc) fails
 capture_fault before now file NoMemoryFault read fails = tt
+
+-- the text that is written for what both files gave
+pub text_of_both : (script capture : List ℕ) (before now : FilesSeen) (says : Script) (frames : List (List ℕ)) → SeesBoth script capture before now says (IsCapture frames)
+    → IsSerialText script capture before now (transcript_spelling (serial_transcript says frames))
+text_of_both script capture before now says frames files = record {
+  script = says;
+  frames = frames;
+  files = files;
+  spelled = refl;
+  legal = serial_is_legal says frames files.script_is.1.script.commands;
+}
+
+-- a text of which a front was taken as the sink failed
+pub wrote_part : (script capture : List ℕ) (x y : Outside) (text : List ℕ) → IsSerialText script capture x.files y.files text → Breaks x.out y.out text Failed
+    → WrotePart script capture x y
+wrote_part script capture x y text made breaks = record { text = text; made = made; front = breaks.0; rose = breaks.1 }
