@@ -1,6 +1,6 @@
 -- What the serial step does to an ARP request and to an echo request.
-use Rattle.std.proofs.Common.{◌≡◌, ℕ, ◌+◌, ◌-◌, ◌*◌, ◌%◌, ◌^◌, ◌≤◌, ◌<◌, ◌++◌, ◌∙◌, ◌==◌, ◌&&◌, ◌||◌, not, Bool, true, false, Option, Some, None, List, [], ◌∷◌, Ok, zero, suc, map, length, take, drop, replicate, slice_index, slice_range, refl, sym, ap, subst, arith, append_assoc, length-append, ne_eqb}
-use Rattle.std.specs.Prelude.{nat_eq, if◌then◌else◌}
+use Rattle.std.proofs.Common.{◌≡◌, ℕ, ◌+◌, ◌^◌, ◌<◌, ◌++◌, ◌∙◌, ◌==◌, Bool, true, false, Option, Some, None, List, [], ◌∷◌, zero, suc, length, take, slice_index, refl, sym, ap, subst, arith, length-append, ne_eqb}
+use Rattle.std.specs.Prelude.{if◌then◌else◌}
 use Rattle.std.proofs.lemmas.List.{take_all}
 use Rattle.std.proofs.lemmas.Bool.{eq-eqb}
 use Rattle.lw_base.specs.declared.addresses.Ip.{Ip}
@@ -10,27 +10,24 @@ use Rattle.lw_base.specs.declared.heads.ArpPacket.{ArpPacket}
 use Rattle.lw_base.specs.declared.heads.EthHead.{EthHead}
 use Rattle.lw_base.specs.declared.heads.IcmpHead.{IcmpHead}
 use Rattle.lw_base.specs.declared.heads.IpHead.{IpHead}
-use Rattle.lw_netif.specs.Route.{route_of}
 use Rattle.lw_netif.specs.Frames.{frames_left}
-use Rattle.lw_arp.specs.declared.entries.EntryState.TheVariants.{Stable}
-use Rattle.lw_arp.specs.Neighbours.{is_answered, learnt, released, state_of}
+use Rattle.lw_arp.specs.Neighbours.{is_answered, learnt, released}
 use Rattle.lw_icmp.specs.Messages.{echo_answer, echo_reply, echo_request}
-use Rattle.lw_wire.specs.Eth.{eth_of, eth_spelling, HasEthSpelling}
-use Rattle.lw_wire.specs.Arp.{arp_of, arp_spelling, HasArpSpelling}
-use Rattle.lw_wire.specs.Ip.{ip_of, ip_spelling, FitsIp, HasIpSpelling}
-use Rattle.lw_wire.specs.Icmp.{icmp_of, icmp_spelling, HasIcmpSpelling}
+use Rattle.lw_wire.specs.Eth.{eth_spelling, HasEthSpelling}
+use Rattle.lw_wire.specs.Arp.{arp_spelling, HasArpSpelling}
+use Rattle.lw_wire.specs.Ip.{ip_spelling, FitsIp, HasIpSpelling}
+use Rattle.lw_wire.specs.Icmp.{icmp_spelling}
 use Rattle.lw_wire.proofs.ArpLaws.{arp-read_back}
 use Rattle.lw_wire.proofs.IpLaws.{ip-read_back}
 use Rattle.lw_wire.proofs.IcmpLaws.{icmp-read_back}
-use Rattle.lw_link.specs.Way.{Link, Way, arp_answer, arp_input, arp_reply, emit, knows, packet_frame, released_to, sends, sent_head, takes_id}
+use Rattle.lw_link.specs.Way.{Way, arp_answer, arp_input, arp_reply, emit, knows, packet_frame, released_to, sent_head}
 use Rattle.lw_core.specs.declared.arrival.Arrival.{Arrival}
 use Rattle.lw_core.specs.declared.arrival.Arrival.TheVariants.{Arp, Datagram, Nothing}
 use Rattle.lw_core.specs.Arrivals.{arrival_of, arp_brings, data_brings, data_in, datagram_brings, header_in}
-use Rattle.lw_core.specs.Datagrams.{is_accepted, is_fragment, is_sender}
-use Rattle.lw_core.specs.Input.{begun, ip_input, moved, reply_to}
+use Rattle.lw_core.specs.Datagrams.{is_accepted, is_fragment}
+use Rattle.lw_core.specs.Input.{begun, ip_input, moved}
 use Rattle.lw_core.specs.Laws.{ArpLaw, AsksForUs, EchoLaw, IsForUs, ReachesUs}
-use Rattle.lw_core.specs.State.{State}
-use Rattle.lw_core.specs.Step.{frame_step, going}
+use Rattle.lw_core.specs.Step.{going}
 use Rattle.lw_core.proofs.FrameLaws.{data_at, frame-brings, one_frame, taken}
 
 -- the first of a list is among the first n
@@ -136,8 +133,8 @@ echo-answered s e h numbers text padding hop mac us reaches_short fits few small
     let brings = datagram_arrives net e h request padding us reaches in
     let body = body_arrives e h request padding us.spelled reaches.fits reaches.spelled in
     let input : (moved s frame (Datagram h)).way ≡ emit true (begun s) (sent_head net 1 h.src) answer =
-        rw (whole net h (length request) reaches)
-        (ap (ip_input net (begun s) h (header_in frame h)) body ∙ echo_out net (begun s) h (length request) numbers (header_in frame h) text reaches fits small) in
+    rw (whole net h (length request) reaches)
+    (ap (ip_input net (begun s) h (header_in frame h)) body ∙ echo_out net (begun s) h (length request) numbers (header_in frame h) text reaches fits small) in
     let long : length answer ≡ 8 + length text = icmp_long (record { kind = 0; code = 0; rest = numbers }) text in
     let out = one_frame (begun s) (sent_head net 1 h.src) answer hop mac (omega arith) near known in
     let total : 20 + length answer ≡ 28 + length text = omega arith in

@@ -1,9 +1,9 @@
 -- What a frame brings that is spelled in order, and what goes out in one packet.
-use Rattle.std.proofs.Common.{◌≡◌, ℕ, ◌+◌, ◌-◌, ◌*◌, ◌%◌, ◌^◌, ◌≤◌, ◌<◌, ◌++◌, ◌∙◌, ◌==◌, ◌&&◌, ◌||◌, ◌⊎◌, inl, inr, not, Bool, true, false, List, [], ◌∷◌, Ok, map, length, take, drop, replicate, slice_range, refl, sym, ap, subst, arith, append_assoc, length-append}
+use Rattle.std.proofs.Common.{◌≡◌, ℕ, ◌+◌, ◌-◌, ◌*◌, ◌≤◌, ◌++◌, ◌∙◌, ◌⊎◌, inl, inr, true, false, List, [], ◌∷◌, Ok, map, length, take, drop, replicate, slice_range, refl, sym, ap, subst, arith}
 use Rattle.std.specs.Cmp.Lexicographic.{pointwise}
-use Rattle.std.specs.Prelude.{nat_eq, if◌then◌else◌}
+use Rattle.std.specs.Prelude.{nat_eq}
 use Rattle.std.specs.Int.{div_ceil}
-use Rattle.std.proofs.lemmas.List.{take_all, drop-drop, drop_at, take_at}
+use Rattle.std.proofs.lemmas.List.{take_all, drop-drop, drop_at}
 use Rattle.std.proofs.lemmas.Bool.{eq-eqb}
 use Rattle.std.proofs.Math.Bool.{or-true}
 use Rattle.lw_base.specs.declared.addresses.Ip.{Ip}
@@ -11,15 +11,15 @@ use Rattle.lw_base.specs.declared.addresses.Mac.{Mac}
 use Rattle.lw_base.specs.declared.addresses.Net.{Net}
 use Rattle.lw_base.specs.declared.heads.EthHead.{EthHead}
 use Rattle.lw_base.specs.declared.heads.IpHead.{IpHead}
-use Rattle.lw_frag.specs.Pieces.{full_count, full_pieces, octets_of, piece, pieces_of}
-use Rattle.lw_wire.specs.Eth.{eth_of, eth_spelling, HasEthSpelling}
+use Rattle.lw_frag.specs.Pieces.{full_count, full_pieces, piece}
+use Rattle.lw_wire.specs.Eth.{eth_spelling, HasEthSpelling}
 use Rattle.lw_wire.specs.Ip.{ip_spelling}
 use Rattle.lw_wire.proofs.EthLaws.{eth-read_back}
 use Rattle.lw_netif.specs.Route.{route_of}
 use Rattle.lw_arp.specs.declared.entries.EntryState.TheVariants.{Stable}
 use Rattle.lw_arp.specs.Neighbours.{state_of}
 use Rattle.lw_link.specs.Way.{Way, emit, packet, packet_frame, packets, sends, takes_id}
-use Rattle.lw_core.specs.Arrivals.{arrival_of, data_brings, frame_brings, is_taken}
+use Rattle.lw_core.specs.Arrivals.{arrival_of, data_brings, is_taken}
 
 -- a list is the same as itself, octet by octet
 pointwise-self : (xs : List ℕ) → pointwise nat_eq xs xs ≡ true
@@ -63,7 +63,7 @@ data_at front octets head_len total n long is_head is_total =
     let size : 14 + total - (14 + head_len) ≡ n = omega arith in
     let place : 14 + head_len ≡ 14 + 20 = omega arith in
     let behind : drop (14 + 20) (front ++ octets) ≡ drop 20 octets =
-        sym (drop-drop 20 14 (front ++ octets)) ∙ ap (drop 20) (drop_at front octets 14 long) in
+    sym (drop-drop 20 14 (front ++ octets)) ∙ ap (drop 20) (drop_at front octets 14 long) in
     rw (size, place, behind) refl
 
 -- a datagram that fits in one packet goes out in one frame, where the next hop is known

@@ -1,5 +1,5 @@
 -- A fragment that is taken in, and what comes out of it.
-use Rattle.std.proofs.Common.{◌≡◌, ℕ, ◌+◌, ◌-◌, ◌^◌, ◌<◌, ◌≤◌, ◌++◌, ◌∙◌, List, [], ◌∷◌, length, take, drop, slice_range, option_to_list, refl, sym, ap, subst, arith}
+use Rattle.std.proofs.Common.{◌≡◌, ℕ, ◌-◌, ◌≤◌, ◌++◌, ◌∙◌, List, [], ◌∷◌, take, drop, slice_range, sym, ap, subst, arith}
 use Rattle.std.specs.List.{All}
 use Rattle.std.proofs.lemmas.List.{length-drop, length-take}
 use Rattle.std.proofs.lemmas.List.Elements.{All-head, All-tail, All-weaker}
@@ -7,12 +7,12 @@ use Rattle.lw_payload.specs.Views.{View, HomeView, Pools, IsOf}
 use Rattle.lw_payload.specs.Calls.{IsCut}
 use Rattle.lw_payload.specs.Totals.{total, IsOwned, Moves}
 use Rattle.lw_payload.proofs.TotalLaws.{AreOf-owned, IsOf-owned, IsOwned-moved, Moves-cut, Moves-then}
-use Rattle.lw_runs.specs.Kept.{CanJoin, FirstCanTake, Holds}
+use Rattle.lw_runs.specs.Kept.{FirstCanTake, Holds}
 use Rattle.lw_runs.proofs.HoldsLaws.{Moves-holds}
 use Rattle.lw_reass.specs.declared.outcome.FragmentPlan.{FragmentPlan}
 use Rattle.lw_reass.specs.declared.outcome.FragmentPlan.TheVariants.{Refuse, Keep, Complete}
 use Rattle.lw_reass.specs.Table.{Reassembly, kept_at, IsReady}
-use Rattle.lw_core.proofs.MoveLaws.{family_of, IsOwned-back, IsOwned-by, IsOwned-front, Moves-by, Moves-front}
+use Rattle.lw_core.proofs.MoveLaws.{IsOwned-by, IsOwned-front, Moves-by, Moves-front}
 
 -- a payload with fewer parts and as much room can be joined where the other can
 fewer_taken : {P : Type 0} (seen : P → View) (ps : List P) (n m : ℕ) → m ≤ n → FirstCanTake seen ps n → FirstCanTake seen ps m

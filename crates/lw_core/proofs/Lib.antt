@@ -1,8 +1,11 @@
 mod AnswerLaws
+mod ApplyLaws
+mod ClaimLaws
 mod CutLaws
 mod FrameLaws
 mod KeepLaws
 mod MoveLaws
 mod PlanLaws
-pub mod SoundLaws
+pub mod ShortFrames
+mod SoundLaws
 mod WaitLaws

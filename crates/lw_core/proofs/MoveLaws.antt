@@ -1,7 +1,7 @@
 -- What a stack holds, as payloads move between it and their Home.
-use Rattle.std.proofs.Common.{append-nil, ◌≡◌, ℕ, ◌+◌, ◌≤◌, ◌++◌, ◌∙◌, List, [], ◌∷◌, refl, sym, ap, subst, arith}
+use Rattle.std.proofs.Common.{append-nil, ◌≡◌, ℕ, ◌++◌, ◌∙◌, List, [], ap, subst, arith}
 use Rattle.std.specs.List.{sum_by}
-use Rattle.lw_payload.specs.Views.{Slot, View, HomeView, Pools}
+use Rattle.lw_payload.specs.Views.{View, HomeView, Pools}
 use Rattle.lw_payload.specs.Totals.{Total, total, IsSum, IsOwned, Moves}
 use Rattle.lw_payload.proofs.TotalLaws.{IsSum-append, IsSum-swap, IsOwned-left, IsOwned-right, IsOwned-moved, IsOwned-same, IsSameTotal-alike, Moves-beside, Moves-same, Moves-then}
 

@@ -1,12 +1,11 @@
 -- The way out stays sound over an event.
-use Rattle.std.proofs.Common.{◌≡◌, ℕ, ◌≤◌, ◌<◌, ◌^◌, ◌==◌, ◌&&◌, Bool, true, false, List, [], ◌∷◌, All, IfOk, IfSome, Option, Some, None, Result, Ok, Err, arith, drop, length, map, nat_lt, subst, if◌then◌else◌}
+use Rattle.std.proofs.Common.{◌≡◌, ℕ, ◌<◌, ◌^◌, ◌==◌, ◌&&◌, Bool, true, false, List, [], ◌∷◌, All, IfErr, IfOk, IfSome, Option, Some, None, Result, Ok, Err, arith, drop, length, map, nat_lt, subst, sym, if◌then◌else◌}
 use Rattle.std.specs.List.{AllZip, cons_option}
 use Rattle.std.specs.Option.{option_map}
 use Rattle.std.proofs.lemmas.List.{length-take}
-use Rattle.std.proofs.lemmas.List.Elements.{All-nil, All-cons, All-head, All-tail, All-take}
+use Rattle.std.proofs.lemmas.List.Elements.{All-nil, All-cons, All-head, All-tail}
 use Rattle.lw_base.specs.declared.addresses.Ip.{Ip}
 use Rattle.lw_base.specs.declared.addresses.Net.{Net}
-use Rattle.lw_base.specs.declared.limits.Limits.{Limits}
 use Rattle.lw_base.specs.declared.heads.ArpPacket.{ArpPacket}
 use Rattle.lw_base.specs.declared.heads.EthHead.{EthHead}
 use Rattle.lw_base.specs.declared.heads.IpHead.{IpHead}
@@ -16,9 +15,6 @@ use Rattle.lw_wire.specs.Fields.{u16_at}
 use Rattle.lw_wire.specs.Eth.{eth_of}
 use Rattle.lw_wire.specs.Arp.{arp_fields, arp_of, is_arp_operation, is_ethernet_ipv4}
 use Rattle.lw_wire.specs.Ip.{ip_of}
-use Rattle.lw_events.specs.declared.event.Event.{Event}
-use Rattle.lw_events.specs.declared.event.Event.TheVariants.{Frame, Stop}
-use Rattle.lw_netif.specs.Frames.{frames_left}
 use Rattle.lw_arp.specs.declared.entries.ArpEntry.{ArpEntry}
 use Rattle.lw_arp.specs.declared.entries.Lesson.TheVariants.{Update}
 use Rattle.lw_arp.specs.Neighbours.{map_entries, packets, waiting}
@@ -37,9 +33,8 @@ use Rattle.lw_core.specs.declared.layers.Layers.{Layers}
 use Rattle.lw_core.specs.Held.{CoreSeen, IsTied}
 use Rattle.lw_core.specs.Layers.{state_of}
 use Rattle.lw_core.specs.Input.{begun, by_added, icmp_output, ip_input, moved, reply_to, whole_header, whole_input}
-use Rattle.lw_core.specs.State.{State, opening}
-use Rattle.lw_core.specs.Step.{frame_granted, step}
-use Rattle.lw_core.specs.History.{granted}
+use Rattle.lw_core.specs.State.{State}
+use Rattle.lw_core.specs.Step.{frame_granted}
 
 icmp_sound : (net : Net) (w : Way) (dst : Ip) (message : Option (List ℕ)) → IsSoundWay w → IsSoundWay (icmp_output net w dst message)
 icmp_sound net w dst (Some message) sound = emit_sound true w (sent_head net 1 dst) message sound
@@ -93,7 +88,7 @@ tied {P} seen l c is sound kept =
 -- What a frame brings
 
 -- the sender of an ARP packet has a hardware address of six octets
-abbrev IsSixArrival : Arrival → Type 0
+abbrev pub IsSixArrival : Arrival → Type 0
 IsSixArrival (Arp p) = IsSix p.smac
 IsSixArrival (Datagram h) = Unit {0}
 IsSixArrival Nothing = Unit {0}
@@ -103,9 +98,9 @@ arp_six octets =
     elim (nat_lt (length octets) 28) as (λ b. IfOk (if b then Err Short else (if is_ethernet_ipv4 octets && is_arp_operation (u16_at 6 octets) then Ok (arp_fields octets) else Err BadField)) (λ p. IsSix p.smac)) [
       | true ↦ tt
       | false ↦ elim (is_ethernet_ipv4 octets && is_arp_operation (u16_at 6 octets)) as (λ b. IfOk (if b then Ok (arp_fields octets) else Err BadField) (λ p. IsSix p.smac)) [
-          | true ↦ let part = length-take 6 (drop 8 octets) in omega (arith, part)
-          | false ↦ tt
-        ]
+        | true ↦ let part = length-take 6 (drop 8 octets) in omega (arith, part)
+        | false ↦ tt
+      ]
     ]
 
 arp_brings_six : (r : Result ArpPacket WireFault) → IfOk r (λ p. IsSix p.smac) → IsSixArrival (arp_brings r)
@@ -121,12 +116,12 @@ data_brings_six net ethertype octets =
     elim (ethertype == 0x0806) as (λ b. IsSixArrival (if b then arp_brings (arp_of octets) else (if ethertype == 0x0800 then datagram_brings net (ip_of octets) else Nothing))) [
       | true ↦ arp_brings_six (arp_of octets) (arp_six octets)
       | false ↦ elim (ethertype == 0x0800) as (λ b. IsSixArrival (if b then datagram_brings net (ip_of octets) else Nothing)) [
-          | true ↦ datagram_brings_six net (ip_of octets)
-          | false ↦ tt
-        ]
+        | true ↦ datagram_brings_six net (ip_of octets)
+        | false ↦ tt
+      ]
     ]
 
-frame_brings_six : (net : Net) (octets : List ℕ) (r : Result (EthHead × ℕ) WireFault) → IsSixArrival (frame_brings net octets r)
+pub frame_brings_six : (net : Net) (octets : List ℕ) (r : Result (EthHead × ℕ) WireFault) → IsSixArrival (frame_brings net octets r)
 frame_brings_six net octets (Ok r) =
     elim (is_taken net r.0.dst) as (λ b. IsSixArrival (if b then data_brings net r.0.ethertype (drop r.1 octets) else Nothing)) [
       | true ↦ data_brings_six net r.0.ethertype (drop r.1 octets)
@@ -135,7 +130,7 @@ frame_brings_six net octets (Ok r) =
 frame_brings_six net octets (Err fault) = tt
 
 -- what an arrival moves
-moved_sound : (s : State) (frame : List ℕ) (a : Arrival) → IsSixArrival a → IsSoundWay (begun s) → IsSoundWay (moved s frame a).way
+pub moved_sound : (s : State) (frame : List ℕ) (a : Arrival) → IsSixArrival a → IsSoundWay (begun s) → IsSoundWay (moved s frame a).way
 moved_sound s frame (Arp p) six sound = input_sound (begun s) p six sound
 moved_sound s frame (Datagram h) six sound =
     elim (is_fragment h) as (λ b. IsSoundWay (if b then by_added s.link.net (begun s) (added s.fragments h (data_in frame h)) else record { way = ip_input s.link.net (begun s) h (header_in frame h) (data_in frame h); fragments = s.fragments }).way) [
@@ -155,22 +150,8 @@ granted_sound s octets false sound =
     let a = arrival_of s.link.net octets in
     ended_sound (moved s octets a).way (moved_sound s octets a (frame_brings_six s.link.net octets (eth_of octets)) sound)
 
--- A stack sends short frames
-
--- a state in which the way out is sound
-abbrev pub IsSoundState : State → Type 0
-IsSoundState s = IsSoundWay (begun s)
-
-pub opening_sound : (net : Net) (limits : Limits) → length net.mac.0 ≤ 6 → IsSoundState (opening net limits)
-opening_sound net limits own = record { own = own; others = All-nil IsSound; frames = All-nil IsShort }
-
-pub step_sound : (s : State) (event : Event (List ℕ)) → IsSoundState s → IsSoundState (step s event granted).state
-step_sound s (Frame octets) sound = granted_sound s octets false sound
-step_sound s Stop sound = sound
-
-pub step_short : (s : State) (event : Event (List ℕ)) → IsSoundState s → All IsShort (step s event granted).frames
-step_short s (Frame octets) sound =
-    let a = arrival_of s.link.net octets in
-    let m = moved s octets a in
-    All-take IsShort (frames_left s.sent) m.way.out (moved_sound s octets a (frame_brings_six s.link.net octets (eth_of octets)) sound).frames
-step_short s Stop sound = All-nil IsShort
+-- and so does what receives one, or finds no memory for it
+pub received_sound : {A E : Type 0} (s t : State) (octets : List ℕ) (short : A → Bool) (B : E → Type 0) (r : Result A E) → IsSoundWay (begun s) → IfOk r (λ x. t ≡ (frame_granted s octets (short x)).state)
+    → ((e : E) → B e → t ≡ s) → IfErr r B → IsSoundWay (begun t)
+received_sound s t octets short B (Ok x) sound ok same err = subst (λ (y : State). IsSoundWay (begun y)) (sym ok) (granted_sound s octets (short x) sound)
+received_sound s t octets short B (Err e) sound ok same err = subst (λ (y : State). IsSoundWay (begun y)) (sym (same e err)) sound

@@ -1,12 +1,12 @@
 -- The packets that wait at entries, given up one after another.
-use Rattle.std.proofs.Common.{◌≡◌, ℕ, ◌++◌, List, [], ◌∷◌, Option, Some, None, option_to_list, refl, sym, subst, ap}
+use Rattle.std.proofs.Common.{◌≡◌, ◌++◌, List, [], ◌∷◌, Option, Some, None, option_to_list, refl, sym, subst, ap}
 use Rattle.std.specs.List.{cons_option}
 use Rattle.lw_payload.specs.Views.{View, HomeView, Pools}
 use Rattle.lw_payload.specs.Totals.{total, IsOwned, Moves}
 use Rattle.lw_payload.proofs.TotalLaws.{IsOwned-moved, Moves-then}
 use Rattle.lw_arp.specs.declared.entries.ArpEntry.{ArpEntry}
 use Rattle.lw_arp.specs.Neighbours.{packets}
-use Rattle.lw_core.proofs.MoveLaws.{family_of, IsOwned-by, IsOwned-front, Moves-by, Moves-front}
+use Rattle.lw_core.proofs.MoveLaws.{IsOwned-by, IsOwned-front, Moves-by, Moves-front}
 
 -- one more or none in front of a list
 in_front : {P : Type 0} (o : Option P) (ps : List P) → cons_option o ps ≡ option_to_list o ++ ps

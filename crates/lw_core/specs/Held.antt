@@ -1,5 +1,5 @@
 -- The payloads that a stack holds, and the RAM that a frame takes.
-use Rattle.std.specs.Prelude.{◌≡◌, ℕ, ◌+◌, ◌^◌, ◌<◌, List, [], ◌∷◌, ◌++◌, All, flat_map, length, map, IsSome, IsTrue}
+use Rattle.std.specs.Prelude.{◌≡◌, ℕ, ◌+◌, ◌^◌, ◌<◌, List, ◌++◌, All, flat_map, length, map, IsSome, IsTrue}
 use Rattle.std.specs.List.{AllZip}
 use Rattle.lw_payload.specs.declared.kinds.Kind.{Kind}
 use Rattle.lw_payload.specs.Views.{Slot, View, HomeView, IsShort, IsTooLong}

@@ -1,5 +1,5 @@
 -- Histories of the serial stack.
-use Rattle.std.specs.Prelude.{ℕ, ◌≡◌, Bool, false, List, [], ◌∷◌}
+use Rattle.std.specs.Prelude.{ℕ, ◌≡◌, false, List, [], ◌∷◌}
 use Rattle.lw_events.specs.declared.event.Event.{Event}
 use Rattle.lw_events.specs.declared.event.Reply.{Reply}
 use Rattle.lw_events.specs.declared.entry.Entry.{Entry}

@@ -6,7 +6,7 @@ use Rattle.lw_base.specs.declared.heads.IpHead.{IpHead}
 use Rattle.lw_icmp.specs.Messages.{echo_reply, unreachable}
 use Rattle.lw_wire.specs.Ip.{ip_spelling}
 use Rattle.lw_wire.specs.Udp.{udp_of}
-use Rattle.lw_link.specs.Way.{Link, Way, arp_input, emit, sent_head}
+use Rattle.lw_link.specs.Way.{Way, arp_input, emit, sent_head}
 use Rattle.lw_reass.specs.Datagrams.{Added, Datagram as OpenDatagram, added, whole_in}
 use Rattle.lw_core.specs.declared.arrival.Arrival.{Arrival}
 use Rattle.lw_core.specs.declared.arrival.Arrival.TheVariants.{Arp, Datagram, Nothing}

@@ -1,5 +1,5 @@
 -- What the serial step does to frames that everybody knows.
-use Rattle.std.specs.Prelude.{◌≡◌, ℕ, ◌+◌, ◌^◌, ◌≤◌, ◌<◌, ◌++◌, ◌⊎◌, slice_index, true, false, List, [], ◌∷◌, length, replicate, Ok, not}
+use Rattle.std.specs.Prelude.{◌≡◌, ℕ, ◌+◌, ◌^◌, ◌≤◌, ◌<◌, ◌++◌, ◌⊎◌, slice_index, true, false, List, [], ◌∷◌, length, replicate, Ok}
 use Rattle.lw_base.specs.declared.addresses.Ip.{Ip}
 use Rattle.lw_base.specs.declared.addresses.Mac.{Mac}
 use Rattle.lw_base.specs.declared.addresses.Net.{Net}

@@ -1,6 +1,5 @@
 -- How the layers of a stack stand for its state, and what a plan of a frame is.
-use Rattle.std.specs.Prelude.{◌≡◌, ℕ, ◌-◌, ◌<◌, List, ◌++◌, length, IfSome, if◌then◌else◌}
-use Rattle.lw_base.specs.declared.heads.IpHead.{IpHead}
+use Rattle.std.specs.Prelude.{◌≡◌, ℕ, ◌-◌, List, ◌++◌, length, IfSome, if◌then◌else◌}
 use Rattle.lw_arp.specs.Neighbours.{learn_plan, map_entries, packets, taught_by}
 use Rattle.lw_payload.specs.Views.{View}
 use Rattle.lw_runs.specs.Kept.{AreSameButRoom}

@@ -5,12 +5,10 @@ ghost use Rattle.lw_core.specs.Laws.{ArpLaw, EchoLaw};
 /// that goes out.
 pub fn arp_request_is_answered()
     ensures { ArpLaw }
-{
-}
+{}
 
 /// An echo request to the own address, from a sender whose next hop is known, gets exactly one reply,
 /// with its identifier, its sequence number and its data (RFC 792).
 pub fn echo_request_is_answered()
     ensures { EchoLaw }
-{
-}
+{}

@@ -85,12 +85,7 @@ impl<P: Payload> Layers<P> {
     }
 
     /// Plans the frame of the packet that an ARP packet lets out, if one waits.
-    fn release(
-        &self,
-        alloc: Global,
-        link: &mut LinkPlan,
-        learn: &LearnPlan,
-    ) -> Result<(), NoMemory>
+    fn release(&self, alloc: Global, link: &mut LinkPlan, learn: &LearnPlan) -> Result<(), NoMemory>
         requires sound { IsSoundWay (begun (state_of P.seen self.now)) }
         ensures exact { OnOk result ((l : Link) (m : Way) → l.net ≡ self.now.netif → Plans link.old l m
             → Plans link.new l (released_to m learn.now.mac (sent_by learn.now (map_entries (λ p. (P.seen p).octets) self.now.neighbours)))) }

@@ -5,8 +5,6 @@ mod chunk;
 mod chunks;
 mod run;
 mod runs;
-#[cfg(test)]
-mod tests;
 
 pub use run::Run;
 pub use runs::Runs;

@@ -1,5 +1,5 @@
 use Rattle.std.proofs.Common.{subst, sym}
-use Rattle.lw_core.proofs.SoundLaws.{IsSoundState, opening_sound, step_short, step_sound}
+use Rattle.lw_core.proofs.ShortFrames.{IsSoundState, opening_sound, step_short, step_sound}
 use Rattle.lw_transcript.specs.Transcript.{IsTranscript}
 use Rattle.lw_rules.proofs.TranscriptLaws.{serial_is_transcript}
 use Rattle.lwip_run.proofs.texts.write_serial.Goals as goal

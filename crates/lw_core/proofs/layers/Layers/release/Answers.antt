@@ -1,15 +1,10 @@
-use Rattle.std.proofs.Common.{rules, ◌≡◌, ◌-◌, ◌+◌, ◌≤◌, IfOk, IfSome, OnOk, None, length, ℕ, ◌*◌, ◌<◌, ◌/◌, ◌%◌, Bool, true, false, nat_eq, nat_lt, List, [], ◌∷◌, ◌++◌, slice_index_or, slice_set, bit_and, bit_or, Fits, w8, w32, w64, Bor, MutBor}
-use Rattle.lw_arp.specs.Neighbours.{map_entries, sent_by, waiting}
-use Rattle.lw_link.specs.Plans.{IsOver, Plans}
-use Rattle.lw_link.specs.Way.{Link, Way, IsPacket, released_to}
-use Rattle.lw_reass.specs.Datagrams.{added, plan_of, whole_in}
-use Rattle.lw_core.specs.Arrivals.{data_in, Holds, HoldsDatagram}
-use Rattle.lw_link.specs.Sound.{IsSoundWay}
-use Rattle.lw_core.specs.Input.{begun, whole_input}
-use Rattle.lw_core.specs.Layers.{state_of, IsPlanned}
-use Rattle.lw_core.specs.declared.arrival.Arrival.{Arrival}
+use Rattle.std.proofs.Common.{◌∙◌, Some, sym, ap}
+use Rattle.lw_arp.specs.Neighbours.{map_entries, sent_by}
+use Rattle.lw_core.proofs.PlanLaws.{releases-as}
 use Rattle.lw_core.proofs.layers.Layers.release.Goals as goal
 
--- src/plan.rt:88:5
 pub returns-in-Some-clause-exact : goal.returns-in-Some-clause-exact
-returns-in-Some-clause-exact g c = ?
+returns-in-Some-clause-exact g c =
+    releases-as c.release.result c.args.self.now.netif c.args.link.now c.release.new.self c.args.learn.now.mac (Some c.as_slice.result.now)
+    (sent_by c.args.learn.now (map_entries (λ p. (g.P.Payload.seen p).octets) c.args.self.now.neighbours))
+    (ap Some c.as_slice.ensures ∙ sym c.in-Some.is ∙ c.in_ok-packet.ensures) c.release.ensures.exact

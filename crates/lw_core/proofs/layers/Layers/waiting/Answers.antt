@@ -1,23 +1,21 @@
-use Rattle.std.proofs.Common.{rules, ◌≡◌, ◌-◌, ◌+◌, ◌≤◌, IfOk, IfSome, OnOk, None, length, ℕ, ◌*◌, ◌<◌, ◌/◌, ◌%◌, Bool, true, false, nat_eq, nat_lt, List, [], ◌∷◌, ◌++◌, slice_index_or, slice_set, bit_and, bit_or, Fits, w8, w32, w64, Bor, MutBor}
-use Rattle.lw_arp.specs.Neighbours.{map_entries, sent_by, waiting}
-use Rattle.lw_link.specs.Plans.{IsOver, Plans}
-use Rattle.lw_link.specs.Way.{Link, Way, IsPacket, released_to}
-use Rattle.lw_reass.specs.Datagrams.{added, plan_of, whole_in}
-use Rattle.lw_core.specs.Arrivals.{data_in, Holds, HoldsDatagram}
-use Rattle.lw_link.specs.Sound.{IsSoundWay}
-use Rattle.lw_core.specs.Input.{begun, whole_input}
-use Rattle.lw_core.specs.Layers.{state_of, IsPlanned}
-use Rattle.lw_core.specs.declared.arrival.Arrival.{Arrival}
+use Rattle.std.proofs.Common.{◌^◌, ◌<◌, ◌∙◌, Option, Some, IfSome, length, sym, ap, subst}
+use Rattle.std.specs.Option.{option_map}
+use Rattle.lw_arp.proofs.MapLaws.{waiting-map_entries}
+use Rattle.lw_core.proofs.SoundLaws.{waiting_short}
 use Rattle.lw_core.proofs.layers.Layers.waiting.Goals as goal
 
--- src/plan.rt:122:37
 pub octets_of-requires : goal.octets_of-requires
-octets_of-requires g c = ?
+octets_of-requires g c =
+    subst (λ (o : Option g.row.P.Denot). IfSome o (λ p. length (g.P.Payload.seen p).octets < 2 ^ 32)) (sym c.in-Some.ensures)
+    (waiting_short (λ p. (g.P.Payload.seen p).octets) c.args.self.now.neighbours c.args.learn.now.ip c.requires.sound.others)
 
--- src/plan.rt:117:5
 pub returns-in_ok-octets_of-in-Some : goal.returns-in_ok-octets_of-in-Some
-returns-in_ok-octets_of-in-Some g c = ?
+returns-in_ok-octets_of-in-Some g c =
+    ap Some c.in_ok-octets_of-in-Some.ensures
+    ∙ ap (option_map (λ p. (g.P.Payload.seen p).octets)) c.in-Some.ensures
+    ∙ sym (waiting-map_entries (λ p. (g.P.Payload.seen p).octets) c.args.self.now.neighbours c.args.learn.now.ip)
 
--- src/plan.rt:117:5
 pub returns-in-None : goal.returns-in-None
-returns-in-None g c = ?
+returns-in-None g c =
+    ap (option_map (λ p. (g.P.Payload.seen p).octets)) c.in-None.ensures
+    ∙ sym (waiting-map_entries (λ p. (g.P.Payload.seen p).octets) c.args.self.now.neighbours c.args.learn.now.ip)

@@ -1,15 +1,11 @@
-use Rattle.std.proofs.Common.{rules, ◌≡◌, ◌-◌, ◌+◌, ◌≤◌, IfOk, IfSome, OnOk, None, length, ℕ, ◌*◌, ◌<◌, ◌/◌, ◌%◌, Bool, true, false, nat_eq, nat_lt, List, [], ◌∷◌, ◌++◌, slice_index_or, slice_set, bit_and, bit_or, Fits, w8, w32, w64, Bor, MutBor}
-use Rattle.lw_arp.specs.Neighbours.{map_entries, sent_by, waiting}
-use Rattle.lw_link.specs.Plans.{IsOver, Plans}
-use Rattle.lw_link.specs.Way.{Link, Way, IsPacket, released_to}
-use Rattle.lw_reass.specs.Datagrams.{added, plan_of, whole_in}
-use Rattle.lw_core.specs.Arrivals.{data_in, Holds, HoldsDatagram}
-use Rattle.lw_link.specs.Sound.{IsSoundWay}
-use Rattle.lw_core.specs.Input.{begun, whole_input}
-use Rattle.lw_core.specs.Layers.{state_of, IsPlanned}
-use Rattle.lw_core.specs.declared.arrival.Arrival.{Arrival}
+use Rattle.std.proofs.Common.{◌∙◌, List, ℕ, ap, sym}
+use Rattle.lw_reass.specs.declared.outcome.Outcome.TheVariants.{Whole}
+use Rattle.lw_reass.specs.Datagrams.{added, whole_head}
+use Rattle.lw_core.proofs.PlanLaws.{takes-whole}
 use Rattle.lw_core.proofs.layers.Layers.whole_input.Goals as goal
 
--- src/plan.rt:166:5
 pub returns-clause-exact : goal.returns-clause-exact
-returns-clause-exact g c = ?
+returns-clause-exact g c =
+    takes-whole c.ip_input.result c.args.self.now.netif c.args.self.now.neighbours c.args.link.now c.ip_input.new.plan c.in-Complete.first c.ip_octets-header.result c.as_slice.result.now
+    (added c.args.self.now.fragments.datagrams c.args.head.now c.args.body.now).outcome
+    c.ip_octets-header.ensures.exact (c.in_ok-whole.ensures.whole c.in-Complete.first (ap whole_head c.in-Complete.is) ∙ ap (λ (xs : List ℕ). Whole c.in-Complete.first xs) (sym c.as_slice.ensures)) c.ip_input.ensures.exact

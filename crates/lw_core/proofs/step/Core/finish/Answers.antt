@@ -1,24 +1,26 @@
-use Rattle.std.proofs.Common.{rules, ◌≡◌, [], ◌∷◌, ◌++◌, false, true, IfErr, IfOk, OnOk, OnErr, IfSome, MatchOption, ℕ, ◌+◌, ◌-◌, ◌*◌, ◌<◌, ◌≤◌, length, ◌/◌, ◌%◌, Bool, nat_eq, nat_lt, List, slice_index_or, slice_set, bit_and, bit_or, Fits, w8, w32, w64, Bor, MutBor}
-use Rattle.lw_payload.specs.declared.kinds.Kind.{Kind}
-use Rattle.lw_payload.specs.Views.{IsShort}
-use Rattle.lw_payload.specs.Calls.{IsSameButRoom}
-use Rattle.lw_payload.specs.Totals.{total, IsOwned, Moves}
-use Rattle.lw_events.specs.Events.{payloads_in, text_of, IsSameEvent}
-use Rattle.lw_events.specs.declared.event.Event.{Event}
+use Rattle.std.proofs.Common.{◌++◌, ◌∙◌, List, sym, ap}
 use Rattle.lw_arp.specs.Neighbours.{packets}
-use Rattle.lw_core.specs.State.{opening}
-use Rattle.lw_core.specs.History.{IsStep}
-use Rattle.lw_core.specs.Held.{held_by, IsSameCore, IsTied, MakesRam, RamIsShort}
+use Rattle.lw_reass.specs.Table.{all_kept}
+use Rattle.lw_core.specs.Held.{held_by}
+use Rattle.lw_core.proofs.WaitLaws.{both_parts, first_part_owned, second_part_owned}
 use Rattle.lw_core.proofs.step.Core.finish.Goals as goal
 
--- src/step.rt:144:9
 pub spend_waiting-requires : goal.spend_waiting-requires
-spend_waiting-requires g c = ?
+spend_waiting-requires g c = record {
+  owned = first_part_owned g.P.Payload.seen (g.P.Payload.home_seen c.args.home.now) (held_by c.args.self) (packets c.self.inside.layers.neighbours) (all_kept c.self.inside.layers.fragments) (packets c.into_vec.result.items)
+      (ap held_by (sym c.self.view_is)) (ap packets c.into_vec.ensures) c.requires.owned;
+}
 
--- src/step.rt:145:9
 pub spend_all-requires : goal.spend_all-requires
-spend_all-requires g c = ?
+spend_all-requires g c = record {
+  owned = second_part_owned g.P.Payload.seen (g.P.Payload.home_seen c.args.home.now) (g.P.Payload.home_seen c.spend_waiting.new.home) (held_by c.args.self) (packets c.self.inside.layers.neighbours) (all_kept c.self.inside.layers.fragments)
+      (packets c.into_vec.result.items) c.finish.new.gone.items (ap held_by (sym c.self.view_is)) (ap packets c.into_vec.ensures)
+      (c.finish.ensures ∙ ap (λ (ps : List g.row.P.Denot). ps ++ all_kept c.self.inside.layers.fragments) c.in_ok-kept.ensures.items) c.requires.owned c.spend_waiting.ensures.moves;
+}
 
--- src/step.rt:132:5
 pub returns : goal.returns
-returns g c = ?
+returns g c = record {
+  moves = both_parts g.P.Payload.seen (g.P.Payload.home_seen c.args.home.now) (g.P.Payload.home_seen c.spend_waiting.new.home) (g.P.Payload.home_seen c.spend_all.new.home) (held_by c.args.self) (packets c.self.inside.layers.neighbours)
+      (all_kept c.self.inside.layers.fragments) (packets c.into_vec.result.items) c.finish.new.gone.items (ap held_by (sym c.self.view_is)) (ap packets c.into_vec.ensures)
+      (c.finish.ensures ∙ ap (λ (ps : List g.row.P.Denot). ps ++ all_kept c.self.inside.layers.fragments) c.in_ok-kept.ensures.items) c.spend_waiting.ensures.moves c.spend_all.ensures.moves;
+}
