@@ -12,7 +12,7 @@ use Rattle.lw_pcap.specs.declared.fault.PcapFault.TheVariants.{BadMagic, BadVers
 use Rattle.lw_pcap.specs.Capture.{CaptureFails}
 use Rattle.lw_pcap.specs.Faults.{fault_at}
 use Rattle.lwip_run.specs.Serial.{CaptureFailsAt, CaptureRefused, IsCapture, IsScript, IsSerialText, capture_limit, refusal_of, ScriptRefused, SeesBoth, SerialRefused}
-use Rattle.lw_outside.specs.Sinks.{SinkSeen}
+use Rattle.lw_transcript.specs.declared.page.WriteFault.{WriteFault as PageFault}
 use Rattle.lw_transcript.specs.declared.page.WriteFault.TheVariants.{Failed}
 use Rattle.lw_transcript.specs.Page.{Breaks}
 use Rattle.lw_transcript.specs.Transcript.{transcript_spelling}
@@ -98,6 +98,8 @@ text_of_both script capture before now says frames files = record {
 }
 
 -- a text of which a front was taken as the sink failed
-pub wrote_part : (script capture : List ℕ) (x y : Outside) (text : List ℕ) → IsSerialText script capture x.files y.files text → Breaks x.out y.out text Failed
-    → WrotePart script capture x y
-wrote_part script capture x y text made breaks = record { text = text; made = made; front = breaks.0; rose = breaks.1 }
+pub wrote_part : (script capture : List ℕ) (x y : Outside) (text : List ℕ) (fault : PageFault) → fault ≡ Failed → IsSerialText script capture x.files y.files text
+    → Breaks x.out y.out text fault → WrotePart script capture x y
+wrote_part script capture x y text fault is made breaks =
+    let failed = subst (λ (f : PageFault). Breaks x.out y.out text f) is breaks in
+    record { text = text; made = made; front = failed.0; rose = failed.1 }

@@ -34,5 +34,6 @@ returns g c =
     let frames = c.in_ok-says.frames in
     wrote_part c.args.script.now c.args.capture.now (outside (seen c.args.files.now) (g.K.Sink.seen c.args.out.now))
     (outside (seen c.serial_files.new.files) (g.K.Sink.seen c.write_serial.new.out)) (transcript_spelling (serial_transcript says frames))
+    c.in-Err-Failed.field-0 c.in-Err-Failed.field-0-is
     (text_of_both c.args.script.now c.args.capture.now (seen c.args.files.now) (seen c.serial_files.new.files) says frames c.in_ok-says.ensures)
     c.in-Err-Failed.ensures.err
