@@ -1,4 +1,4 @@
-"""Frames and captures that are fed to a stack at 10.0.0.1, whose hardware address is 02:00:00:00:00:01."""
+"""Frames that are fed to a stack at 10.0.0.1, and the capture file that holds them."""
 import struct
 
 OWN_IP = bytes([10, 0, 0, 1])

@@ -21,8 +21,8 @@ import time
 
 TOP = pathlib.Path(__file__).resolve().parents[2]
 sys.path.insert(0, str(TOP / "bench"))
-
-from frames import MORE, PEER_IP, PEER_MAC, arp_request, arp_requests, echo_message, echo_requests, packet, write_capture  # noqa: E402
+sys.dont_write_bytecode = True
+from frames import MORE, PEER_IP, PEER_MAC, arp_request, arp_requests, echo_message, echo_requests, packet, write_capture
 
 TURNS = 3
 SCRIPT = b"lwip 1\nnet 10.0.0.1 255.0.0.0 10.255.255.254 020000000001\nlimits default\n"

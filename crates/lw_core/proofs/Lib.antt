@@ -5,6 +5,7 @@ mod CutLaws
 mod FrameLaws
 mod KeepLaws
 mod MoveLaws
+pub mod OwnLaws
 mod PlanLaws
 pub mod ShortFrames
 mod SoundLaws
