@@ -7,5 +7,6 @@ mod KeepLaws
 mod MoveLaws
 pub mod OwnLaws
 mod PlanLaws
+pub mod ShortFrames
 mod SoundLaws
 mod WaitLaws

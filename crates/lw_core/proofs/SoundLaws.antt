@@ -88,7 +88,7 @@ tied {P} seen l c is sound kept =
 -- What a frame brings
 
 -- the sender of an ARP packet has a hardware address of six octets
-abbrev IsSixArrival : Arrival → Type 0
+abbrev pub IsSixArrival : Arrival → Type 0
 IsSixArrival (Arp p) = IsSix p.smac
 IsSixArrival (Datagram h) = Unit {0}
 IsSixArrival Nothing = Unit {0}
@@ -121,7 +121,7 @@ data_brings_six net ethertype octets =
       ]
     ]
 
-frame_brings_six : (net : Net) (octets : List ℕ) (r : Result (EthHead × ℕ) WireFault) → IsSixArrival (frame_brings net octets r)
+pub frame_brings_six : (net : Net) (octets : List ℕ) (r : Result (EthHead × ℕ) WireFault) → IsSixArrival (frame_brings net octets r)
 frame_brings_six net octets (Ok r) =
     elim (is_taken net r.0.dst) as (λ b. IsSixArrival (if b then data_brings net r.0.ethertype (drop r.1 octets) else Nothing)) [
       | true ↦ data_brings_six net r.0.ethertype (drop r.1 octets)
@@ -130,7 +130,7 @@ frame_brings_six net octets (Ok r) =
 frame_brings_six net octets (Err fault) = tt
 
 -- what an arrival moves
-moved_sound : (s : State) (frame : List ℕ) (a : Arrival) → IsSixArrival a → IsSoundWay (begun s) → IsSoundWay (moved s frame a).way
+pub moved_sound : (s : State) (frame : List ℕ) (a : Arrival) → IsSixArrival a → IsSoundWay (begun s) → IsSoundWay (moved s frame a).way
 moved_sound s frame (Arp p) six sound = input_sound (begun s) p six sound
 moved_sound s frame (Datagram h) six sound =
     elim (is_fragment h) as (λ b. IsSoundWay (if b then by_added s.link.net (begun s) (added s.fragments h (data_in frame h)) else record { way = ip_input s.link.net (begun s) h (header_in frame h) (data_in frame h); fragments = s.fragments }).way) [

@@ -24,7 +24,14 @@ fn main(rt: HostRuntime) -> ExitCode {
     let mut files = StdFiles::new(&rt);
     let mut output = StdSink::output(rt.stdout());
     let mut error = StdSink::error(rt.stderr());
-    let status = lwip_plain(rt.alloc(), &words, &mut files, &mut output, &mut error);
+    let status = lwip_plain::<Vec<u8>, _, _>(
+        rt.alloc(),
+        (),
+        &words,
+        &mut files,
+        &mut output,
+        &mut error,
+    );
     ExitCode::from(status)
 }
 

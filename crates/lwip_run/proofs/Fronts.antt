@@ -1,7 +1,7 @@
 -- Fronts of texts that are written piece by piece.
 use Rattle.std.proofs.Common.{ℕ, List, ◌++◌, Result, Ok, Err, OnErr, sym, ap, ◌∙◌, append_assoc}
 use Rattle.lw_outside.specs.Sinks.{Adds, AddsFront, SinkSeen}
-use Rattle.lwip_run.proofs.OutputLemmas.{Adds-then}
+use Rattle.lw_outside.proofs.WriteLaws.{Adds-then}
 
 -- a front of the first piece is a front of both
 pub first_front : (before now : SinkSeen) (first second : List ℕ) → AddsFront before now first → AddsFront before now (first ++ second)

@@ -43,11 +43,11 @@ reading_given before now name n octets limit r =
 
 pub reading_starts : (before now : FilesSeen) (name : List ℕ) (n : ℕ) (result : Result ℕ Failed) (limit : ℕ) → Finds before now name result → result ≡ Ok n → Reading before now name n [] limit
 reading_starts before now name n result limit finds is = record {
-      sought = finds.sought ∙ ap (λ (r : Result ℕ Failed). looked_for name r ∷ before.sought) is;
-      few = omega arith;
-      names = finds.names;
-      later = finds.cause.later;
-    }
+  sought = finds.sought ∙ ap (λ (r : Result ℕ Failed). looked_for name r ∷ before.sought) is;
+  few = omega arith;
+  names = finds.names;
+  later = finds.cause.later;
+}
 
 -- a read of the file
 read_sought : (before between now : FilesSeen) (name : List ℕ) (n : ℕ) (octets buf : List ℕ) (limit : ℕ) (result : Result ℕ Failed) → Reading before between name n octets limit → Reads between now n buf result → now.sought ≡ read_more result buf (opened name n octets) ∷ before.sought
@@ -79,9 +79,12 @@ reading_ends before between now name n octets buf limit result is room few tells
     let file : FileSeen = read_more (Ok 0) buf (opened name n octets) in
     let later : before.faults ≤ now.faults = let first = r.later in let second = reads.cause.later in omega arith in
     let same : octets ++ take 0 buf ≡ octets = append-nil octets in
-    let ended : nat_lt 0 (length buf) ≡ true = lt-ltb 0 (length buf) room in
-    (file, one_more before now file tells sought (read_names before between now r.names reads.names) later, refl,
-    (record { ended = ended; few = subst (λ (l : List ℕ). length l ≤ limit) (sym same) few }, sym same))
+    let ended : nat_lt 0 (length buf) ≡ true = lt-ltb 0 (length buf) room in (
+      file,
+      one_more before now file tells sought (read_names before between now r.names reads.names) later,
+      refl,
+      (record { ended = ended; few = subst (λ (l : List ℕ). length l ≤ limit) (sym same) few }, sym same),
+    )
 
 -- a read that failed
 pub reading_fails : (before between now : FilesSeen) (name : List ℕ) (n : ℕ) (octets buf : List ℕ) (limit : ℕ) (result : Result ℕ Failed) (e : Failed) → result ≡ Err e → Tells now → Reading before between name n octets limit → Reads between now n buf result → SeesOne name before now (IsLost before now)
@@ -89,9 +92,12 @@ reading_fails before between now name n octets buf limit result e is tells r rea
     let sought = read_sought before between now name n octets buf limit result r reads ∙ ap (λ (r : Result ℕ Failed). read_more r buf (opened name n octets) ∷ before.sought) is in
     let file : FileSeen = read_more (Err e) buf (opened name n octets) in
     let later : before.faults ≤ now.faults = let first = r.later in let second = reads.cause.later in omega arith in
-    let failed = subst (λ (r : Result ℕ Failed). OnErr r (Rose between.faults now.faults)) is reads.cause.failed in
-    (file, one_more before now file tells sought (read_names before between now r.names reads.names) later, refl,
-    (refl, let first = r.later in omega arith))
+    let failed = subst (λ (r : Result ℕ Failed). OnErr r (Rose between.faults now.faults)) is reads.cause.failed in (
+      file,
+      one_more before now file tells sought (read_names before between now r.names reads.names) later,
+      refl,
+      (refl, let first = r.later in omega arith),
+    )
 
 -- the file wasn't found
 pub not_found : (before now : FilesSeen) (name : List ℕ) (result : Result ℕ Failed) (e : Failed) → result ≡ Err e → Tells now → Finds before now name result → SeesOne name before now (IsLost before now)

@@ -1,9 +1,9 @@
 pub mod InputLemmas
-pub mod OutputLemmas
 pub mod Feeding
 pub mod PlainCore
 pub mod OneThread
 pub mod Fronts
 pub mod Forms
+pub mod AtHome
 pub mod SerialFiles
 pub mod Clauses

@@ -1,5 +1,5 @@
 -- What a core over payloads needs of them, and what its step leaves where none is refused.
-use Rattle.std.proofs.Common.{ℕ, ◌≡◌, ◌+◌, ◌≤◌, ◌<◌, ◌++◌, ◌∙◌, Bool, true, false, List, [], ◌∷◌, length, map, All, Option, Some, None, ap, sym, subst, refl, arith}
+use Rattle.std.proofs.Common.{ℕ, ◌≡◌, ◌+◌, ◌^◌, ◌≤◌, ◌<◌, ◌++◌, ◌∙◌, Bool, true, false, List, [], ◌∷◌, length, map, All, Option, Some, None, ap, sym, subst, refl, arith}
 use Rattle.std.specs.Prelude.{option_to_list}
 use Rattle.std.proofs.lemmas.List.Elements.{All-rest, All-same, All-weaker}
 use Rattle.lw_payload.specs.declared.kinds.Kind.{Kind}

@@ -11,21 +11,27 @@ use Rattle.lw_pcap.specs.declared.fault.PcapFault.{PcapFault}
 use Rattle.lw_pcap.specs.declared.fault.PcapFault.TheVariants.{BadMagic, BadVersion, BadLink, Truncated, TooLong as TooLongFrame, NoMemory as NoMemoryFault}
 use Rattle.lw_pcap.specs.Capture.{CaptureFails}
 use Rattle.lw_pcap.specs.Faults.{fault_at}
-use Rattle.lwip_run.specs.Serial.{CaptureFailsAt, CaptureRefused, IsScript, capture_limit, refusal_of, ScriptRefused, SeesBoth, SerialRefused}
-use Rattle.lwip_run.specs.Comes.{Outside, SerialComes}
+use Rattle.lwip_run.specs.Serial.{CaptureFailsAt, CaptureRefused, IsCapture, IsScript, IsSerialText, capture_limit, refusal_of, ScriptRefused, SeesBoth, SerialRefused}
+use Rattle.lw_transcript.specs.declared.page.WriteFault.{WriteFault as PageFault}
+use Rattle.lw_transcript.specs.declared.page.WriteFault.TheVariants.{Failed}
+use Rattle.lw_transcript.specs.Page.{Breaks}
+use Rattle.lw_transcript.specs.Transcript.{transcript_spelling}
+use Rattle.lw_rules.specs.Schedule.{serial_transcript}
+use Rattle.lw_rules.proofs.LegalLaws.{serial_is_legal}
+use Rattle.lwip_run.specs.Comes.{Outside, SerialComes, WrotePart}
 use Rattle.lwip_run.proofs.InputLemmas.{Sees-then}
 
 -- the script was read, then the capture was looked for
 pub both : (script capture : List ℕ) (before between now : FilesSeen) (says : Script) (P : FileSeen → Type 0) → SeesOne script before between (IsScript says) → SeesOne capture between now P → SeesBoth script capture before now says P
 both script capture before between now says P s c = record {
-      script = s.0;
-      capture = c.0;
-      sees = Sees-then before between now (s.0 ∷ []) (c.0 ∷ []) s.1 c.1;
-      script_named = s.2;
-      capture_named = c.2;
-      script_is = s.3;
-      came = c.3;
-    }
+  script = s.0;
+  capture = c.0;
+  sees = Sees-then before between now (s.0 ∷ []) (c.0 ∷ []) s.1 c.1;
+  script_named = s.2;
+  capture_named = c.2;
+  script_is = s.3;
+  came = c.3;
+}
 
 -- a fault of a later part of a call is one of the call
 later_refused : (before between now : FilesSeen) → before.faults ≤ between.faults → (r : Refusal) (file : FileSeen) → CaptureRefused between now r file → CaptureRefused before now r file
@@ -79,3 +85,21 @@ capture_fault before now file BadLink read fails = fault_refused file BadLink re
 capture_fault before now file (Truncated at) read fails = fault_refused file (Truncated at) read (λ e. cc) fails
 capture_fault before now file (TooLongFrame at) read fails = fault_refused file (TooLongFrame at) read (λ e. cc) fails
 capture_fault before now file NoMemoryFault read fails = tt
+
+-- the text that is written for what both files gave
+pub text_of_both : (script capture : List ℕ) (before now : FilesSeen) (says : Script) (frames : List (List ℕ)) → SeesBoth script capture before now says (IsCapture frames)
+    → IsSerialText script capture before now (transcript_spelling (serial_transcript says frames))
+text_of_both script capture before now says frames files = record {
+  script = says;
+  frames = frames;
+  files = files;
+  spelled = refl;
+  legal = serial_is_legal says frames files.script_is.1.script.commands;
+}
+
+-- a text of which a front was taken as the sink failed
+pub wrote_part : (script capture : List ℕ) (x y : Outside) (text : List ℕ) (fault : PageFault) → fault ≡ Failed → IsSerialText script capture x.files y.files text
+    → Breaks x.out y.out text fault → WrotePart script capture x y
+wrote_part script capture x y text fault is made breaks =
+    let failed = subst (λ (f : PageFault). Breaks x.out y.out text f) is breaks in
+    record { text = text; made = made; front = failed.0; rose = failed.1 }

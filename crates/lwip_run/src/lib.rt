@@ -5,7 +5,6 @@ mod files_in;
 mod inputs;
 mod lines;
 mod one_thread;
-mod outputs;
 mod plain;
 mod plain_api;
 mod refusal;
@@ -13,7 +12,7 @@ mod texts;
 
 pub use inputs::{InputFault, read_whole};
 pub use one_thread::serial;
-pub use outputs::write_whole;
 pub use plain::lwip_plain;
 pub use plain_api::PlainApi;
 pub use refusal::Refusal;
+pub use texts::write_serial;

@@ -3,26 +3,33 @@ ghost use Rattle.lw_outside.specs.Faults.{Rose};
 ghost use Rattle.lw_outside.specs.Sinks.{Adds};
 ghost use Rattle.lwip_run.specs.Answers.{Ending, IsNoForm, IsStatus, Says, code_of, said_of, serial_words, text_of, text_of_status};
 ghost use Rattle.lwip_run.specs.Reading.{IsLonger, IsLost, SeesOne};
-ghost use Rattle.lwip_run.specs.Serial.{CaptureFailsAt, IsSerialText, ScriptFails, SerialRefused, capture_limit, script_limit};
+ghost use Rattle.lwip_run.specs.Plain.{NeverRefuses};
+ghost use Rattle.lwip_run.specs.Serial.{CaptureFailsAt, IsCapture, IsSerialText, ScriptFails, SeesBoth, SerialRefused, capture_limit, script_limit};
 ghost use Rattle.lwip_run.specs.Comes.{Comes, HoldsCapture, HoldsNoScript, HoldsScript, OfCapture, OfScript, SerialComes, WrotePart, outside};
 
 use crate::files_in::{capture_in, script_in};
-use crate::outputs::write_whole;
 use crate::refusal::Refusal;
-use crate::texts::serial_text;
+use crate::texts::write_serial;
+use lw_base::FrameList;
 use lw_outside::{Files, Sink};
+use lw_payload::Payload;
+use lw_script::Script;
+use lw_transcript::WriteFault;
 use std::alloc::Global;
 
 /// Does what the words say, which are those behind the program's name: `serial SCRIPT CAPTURE` reads
 /// two files and writes a transcript to `out`. Answers the status with which the program ends, and
-/// writes its text, if it has one, to `err`.
-pub fn lwip_plain<F: Files, K: Sink>(
+/// writes its text, if it has one, to `err`. The stack that runs is over payloads of this Home, which makes
+/// each that it is asked for.
+pub fn lwip_plain<P: Payload<Home: Drop>, F: Files, K: Sink>(
     alloc: Global,
+    home: P::Home,
     words: &[String],
     files: &mut F,
     out: &mut K,
     err: &mut K,
 ) -> u8
+    requires never { NeverRefuses P.home_seen P.may_refuse }
     requires asked { (script capture : List ℕ) → map string_bytes words.now ≡ serial_words script capture → F.asked script × F.asked capture }
 
     // each ending with its cause, and what was said of it
@@ -66,22 +73,24 @@ pub fn lwip_plain<F: Files, K: Sink>(
         → HoldsNoScript ((F.seen files.old).holds script)
         → (result ≡ 3) ⊎ ((result ≡ 8) ⊎ SeesOne script (F.seen files.old) (F.seen files.new) (IsLost (F.seen files.old) (F.seen files.new))) }
 {
-    let done = plain(alloc, words, files, out);
+    let done = plain::<P, F, K>(alloc, home, words, files, out);
     answer(err, done)
 }
 
 /// Does what the words say.
-fn plain<F: Files, K: Sink>(
+fn plain<P: Payload<Home: Drop>, F: Files, K: Sink>(
     alloc: Global,
+    home: P::Home,
     words: &[String],
     files: &mut F,
     out: &mut K,
 ) -> Result<(), Refusal>
+    requires never { NeverRefuses P.home_seen P.may_refuse }
     requires asked { (script capture : List ℕ) → map string_bytes words.now ≡ serial_words script capture → F.asked script × F.asked capture }
     ensures { Comes (map string_bytes words.now) (outside (F.seen files.old) (K.seen out.old)) (outside (F.seen files.new) (K.seen out.new)) result }
 {
     match form(words) {
-        Some((script, capture)) => serial_form(alloc, files, out, script, capture),
+        Some((script, capture)) => serial_form::<P, F, K>(alloc, home, files, out, script, capture),
         None => Err(Refusal::Usage),
     }
 }
@@ -113,40 +122,40 @@ fn form(words: &[String]) -> Option<(&str, &str)>
     Some((script.as_str(), capture.as_str()))
 }
 
-/// The text that `serial` writes for these files.
+/// What the two files say: the script, then the frames of the capture.
 fn serial_files<F: Files>(
     alloc: Global,
     files: &mut F,
     script: &str,
     capture: &str,
-) -> Result<Vec<u8>, Refusal>
+) -> Result<(Script, FrameList), Refusal>
     requires script { F.asked script.now }
     requires capture { F.asked capture.now }
-    ensures { MatchResult result (λ text. IsSerialText script.now capture.now (F.seen files.old) (F.seen files.new) text.items) (SerialRefused script.now capture.now (F.seen files.old) (F.seen files.new)) }
+    ensures { MatchResult result (λ r. SeesBoth script.now capture.now (F.seen files.old) (F.seen files.new) r.0 (IsCapture r.1)) (SerialRefused script.now capture.now (F.seen files.old) (F.seen files.new)) }
 {
     let says = script_in(alloc, files, script)?;
     let frames = capture_in(alloc, files, capture)?;
-    match serial_text(alloc, &says, frames) {
-        Ok(text) => Ok(text),
-        Err(_) => Err(Refusal::NoMemory),
-    }
+    Ok((says, frames))
 }
 
-/// Does `serial` and writes its text.
-fn serial_form<F: Files, K: Sink>(
+/// Does `serial`: reads the files, runs the script and writes its transcript.
+fn serial_form<P: Payload<Home: Drop>, F: Files, K: Sink>(
     alloc: Global,
+    home: P::Home,
     files: &mut F,
     out: &mut K,
     script: &str,
     capture: &str,
 ) -> Result<(), Refusal>
+    requires never { NeverRefuses P.home_seen P.may_refuse }
     requires script { F.asked script.now }
     requires capture { F.asked capture.now }
     ensures { SerialComes script.now capture.now (outside (F.seen files.old) (K.seen out.old)) (outside (F.seen files.new) (K.seen out.new)) result }
 {
-    let text = serial_files(alloc, files, script, capture)?;
-    match write_whole(out, &text) {
+    let (says, frames) = serial_files(alloc, files, script, capture)?;
+    match write_serial::<P, K>(alloc, home, &says, frames, out) {
         Ok(()) => Ok(()),
-        Err(_) => Err(Refusal::WriteFault),
+        Err(WriteFault::NoMemory) => Err(Refusal::NoMemory),
+        Err(WriteFault::Failed) => Err(Refusal::WriteFault),
     }
 }

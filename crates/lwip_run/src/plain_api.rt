@@ -1,4 +1,4 @@
-ghost use Rattle.std.specs.Prelude.{◌≡◌, ◌+◌, ◌++◌, [], ◌∷◌, All, IfOk, IfSome, List, MatchOption, length};
+ghost use Rattle.std.specs.Prelude.{◌≡◌, ◌+◌, ◌++◌, [], ◌∷◌, All, IfOk, IfSome, List, MatchOption, OnErr, length};
 ghost use Rattle.lw_payload.specs.Totals.{IsOwned, total};
 ghost use Rattle.lw_core.specs.Held.{held_by};
 ghost use Rattle.lw_rules.specs.Schedule.{made, named_from, turn};
@@ -54,8 +54,8 @@ impl<P: Payload<Home: Drop>> PlainApi<P> {
         }
     }
 
-    /// The history.
-    pub fn into_entries(self) -> Vec<Entry>
+    /// The history. What the core holds goes to the Home, but for want of memory.
+    pub fn into_entries(self, alloc: Global) -> Vec<Entry>
         ensures { result.items ≡ self.entries }
     {
         let PlainApi {
@@ -64,7 +64,7 @@ impl<P: Payload<Home: Drop>> PlainApi<P> {
             entries,
             ..
         } = self;
-        core.finish(&mut home);
+        let _ = core.finish(alloc, &mut home);
         entries
     }
 
@@ -144,14 +144,11 @@ impl<P: Payload<Home: Drop>> PlainApi<P> {
 
 /// A payload of POOL with the octets of a frame, out of a Home that refuses none. What is owned by
 /// others stays so.
-fn made_frame<P: Payload>(
-    alloc: Global,
-    home: &mut P::Home,
-    octets: &[u8],
-) -> Result<P, AllocError>
+fn made_frame<P: Payload>(alloc: Global, home: &mut P::Home, octets: &[u8]) -> Result<P, AllocError>
     requires never { NeverRefuses P.home_seen P.may_refuse }
     requires short { IsBody octets.now }
     ensures octets { IfOk result (λ p. (P.seen p).octets ≡ octets.now) }
+    ensures err { OnErr result (P.home_seen home.new ≡ P.home_seen home.old) }
     ensures owned { IfOk result (λ p. (held : List P) → IsOwned (P.home_seen home.old) (total P.seen (P.home_seen home.old).pools.family held)
         → IsOwned (P.home_seen home.new) (total P.seen (P.home_seen home.new).pools.family (p ∷ held))) }
 {

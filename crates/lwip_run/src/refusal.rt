@@ -3,9 +3,8 @@ ghost use Rattle.lw_outside.specs.Faults.{HasCause};
 ghost use Rattle.lw_outside.specs.Sinks.{Adds, AddsFront};
 ghost use Rattle.lwip_run.specs.Answers.{Says, status_of, text_of};
 
-use crate::outputs::write_whole;
 use itoa::Buffer;
-use lw_outside::{Failed, Sink};
+use lw_outside::{Failed, Sink, write_all};
 
 /// Why a form was not done.
 #[derive(Clone, Copy, Debug, PartialEq, Eq)]
@@ -44,13 +43,13 @@ impl Refusal {
         ensures { Says (K.seen err.old) (K.seen err.new) (text_of self) }
     {
         let _ = match self {
-            Refusal::Usage => write_whole(err, b"lwip: usage\n"),
+            Refusal::Usage => write_all(err, b"lwip: usage\n"),
             Refusal::BadScript(line) => write_numbered(err, b"lwip: script line ", line),
             Refusal::BadCapture(at) => write_numbered(err, b"lwip: capture at ", at),
-            Refusal::ReadFault => write_whole(err, b"lwip: read fault\n"),
-            Refusal::WriteFault => write_whole(err, b""),
-            Refusal::TooLong => write_whole(err, b"lwip: too long\n"),
-            Refusal::NoMemory => write_whole(err, b"lwip: no memory\n"),
+            Refusal::ReadFault => write_all(err, b"lwip: read fault\n"),
+            Refusal::WriteFault => write_all(err, b""),
+            Refusal::TooLong => write_all(err, b"lwip: too long\n"),
+            Refusal::NoMemory => write_all(err, b"lwip: no memory\n"),
         };
     }
 }
@@ -63,7 +62,7 @@ fn write_numbered<K: Sink>(sink: &mut K, head: &[u8], number: usize) -> Result<(
 {
     let mut buffer = Buffer::new();
     write_two(sink, head, buffer.format(number).as_bytes())?;
-    write_whole(sink, b"\n")?;
+    write_all(sink, b"\n")?;
     Ok(())
 }
 
@@ -73,7 +72,7 @@ fn write_two<K: Sink>(sink: &mut K, first: &[u8], second: &[u8]) -> Result<(), F
     ensures failed { OnErr result (AddsFront (K.seen sink.old) (K.seen sink.new) (first.now ++ second.now)) }
     ensures cause { HasCause (K.seen sink.old).faults (K.seen sink.new).faults result }
 {
-    write_whole(sink, first)?;
-    write_whole(sink, second)?;
+    write_all(sink, first)?;
+    write_all(sink, second)?;
     Ok(())
 }

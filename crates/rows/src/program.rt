@@ -41,7 +41,7 @@ pub fn run(
     let mut files = MemFiles::new(alloc, files, vec![in alloc; failing.files]?)?;
     let mut out = NarrowSink::new(alloc, failing.out)?;
     let mut err = NarrowSink::new(alloc, failing.err)?;
-    let status = lwip_plain(alloc, &words, &mut files, &mut out, &mut err);
+    let status = lwip_plain::<Vec<u8>, _, _>(alloc, (), &words, &mut files, &mut out, &mut err);
     Ok(Ran { status, out, err })
 }
 

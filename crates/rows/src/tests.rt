@@ -100,7 +100,14 @@ fn files_of_the_system(rt: HostRuntime) -> Result<(), Fail> {
     let words = words_of(rt.alloc(), SERIAL)?;
     let mut out = NarrowSink::new(rt.alloc(), 0)?;
     let mut err = NarrowSink::new(rt.alloc(), 0)?;
-    let status = lwip_plain(rt.alloc(), &words, &mut files, &mut out, &mut err);
+    let status = lwip_plain::<Vec<u8>, _, _>(
+        rt.alloc(),
+        (),
+        &words,
+        &mut files,
+        &mut out,
+        &mut err,
+    );
     assert_eq!(rt; status, 0);
     assert_eq!(rt; out.octets(), ARP_TRANSCRIPT);
     Ok(())

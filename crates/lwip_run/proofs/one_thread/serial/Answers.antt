@@ -9,10 +9,10 @@ use Rattle.lwip_run.proofs.PlainCore.{frames_bodies}
 use Rattle.lwip_run.proofs.one_thread.serial.Goals as goal
 
 pub returns : goal.returns
-returns c =
+returns g c =
     let core : c.in_ok-core.core.state ≡ opening c.args.script.now.net (limits_of c.args.script.now.profile) =
     c.in_ok-core.ensures.state
-    ∙ ap (λ (net : Net). opening net c.limits.result) c.netif.ensures.net
+    ∙ ap (λ (net : Net). opening net c.limits.result) c.netif.ensures
     ∙ ap (λ (limits : Limits). opening c.args.script.now.net limits) c.limits.ensures in
     let begins : c.new-api.result ≡ beginning c.args.script.now c.args.frames =
     c.new-api.ensures
@@ -23,4 +23,4 @@ returns c =
     (c.deref.ensures.value ∙ c.in_ok-calls.ensures) c.in_ok-body.ensures
 
 pub new-api-requires-clause-short : goal.new-api-requires-clause-short
-new-api-requires-clause-short c = frames_bodies c.args.frames c.requires
+new-api-requires-clause-short g c = frames_bodies c.args.frames c.requires.short

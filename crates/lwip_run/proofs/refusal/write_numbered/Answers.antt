@@ -13,12 +13,12 @@ returns-in_err-write_two-clause-failed g c =
     on_error c.from_residual.result
     (first_front (seen c.args.sink.now) (seen c.write_two.new.sink) (c.args.head.now ++ decimal c.args.number) (codes "\n") front)
 
-pub returns-in_err-write_whole-clause-failed : goal.returns-in_err-write_whole-clause-failed
-returns-in_err-write_whole-clause-failed g c =
+pub returns-in_err-write_all-clause-failed : goal.returns-in_err-write_all-clause-failed
+returns-in_err-write_all-clause-failed g c =
     let seen = g.K.Sink.seen in
     let text : c.as_bytes.result.now ≡ decimal c.args.number = c.as_bytes.ensures.value ∙ c.format.ensures.text in
     let added =
     subst (λ (digits : List ℕ). Adds (seen c.args.sink.now) (seen c.write_two.new.sink) (c.args.head.now ++ digits)) text
     c.in_ok-write_two.ensures.ok in
-    on_error c.from_residual-in_err-write_whole.result
-    (second_front (seen c.args.sink.now) (seen c.write_two.new.sink) (seen c.write_whole.new.sink) (c.args.head.now ++ decimal c.args.number) (codes "\n") added c.in_err-write_whole.ensures.failed)
+    on_error c.from_residual-in_err-write_all.result
+    (second_front (seen c.args.sink.now) (seen c.write_two.new.sink) (seen c.write_all.new.sink) (c.args.head.now ++ decimal c.args.number) (codes "\n") added c.in_err-write_all.ensures.failed)

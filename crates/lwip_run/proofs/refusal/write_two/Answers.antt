@@ -1,14 +1,14 @@
 use Rattle.lwip_run.proofs.Fronts.{first_front, on_error, second_front}
 use Rattle.lwip_run.proofs.refusal.write_two.Goals as goal
 
-pub returns-in_err-write_whole-clause-failed : goal.returns-in_err-write_whole-clause-failed
-returns-in_err-write_whole-clause-failed g c =
+pub returns-in_err-write_all-clause-failed : goal.returns-in_err-write_all-clause-failed
+returns-in_err-write_all-clause-failed g c =
     let seen = g.K.Sink.seen in
     on_error c.from_residual.result
-    (first_front (seen c.args.sink.now) (seen c.write_whole.new.sink) c.args.first.now c.args.second.now c.in_err-write_whole.ensures.failed)
+    (first_front (seen c.args.sink.now) (seen c.write_all.new.sink) c.args.first.now c.args.second.now c.in_err-write_all.ensures.failed)
 
-pub returns-in_err-write_whole-2-clause-failed : goal.returns-in_err-write_whole-2-clause-failed
-returns-in_err-write_whole-2-clause-failed g c =
+pub returns-in_err-write_all-2-clause-failed : goal.returns-in_err-write_all-2-clause-failed
+returns-in_err-write_all-2-clause-failed g c =
     let seen = g.K.Sink.seen in
-    on_error c.from_residual-in_err-write_whole-2.result
-    (second_front (seen c.args.sink.now) (seen c.write_whole.new.sink) (seen c.write_whole-2.new.sink) c.args.first.now c.args.second.now c.in_ok-write_whole.ensures.ok c.in_err-write_whole-2.ensures.failed)
+    on_error c.from_residual-in_err-write_all-2.result
+    (second_front (seen c.args.sink.now) (seen c.write_all.new.sink) (seen c.write_all-2.new.sink) c.args.first.now c.args.second.now c.in_ok-write_all.ensures.ok c.in_err-write_all-2.ensures.failed)
