@@ -6,6 +6,7 @@
 
 ghost use Rattle.std.specs.Prelude.{◌≡◌, ◌+◌, [], IfOk, IsTrue};
 ghost use Rattle.lw_payload.specs.declared.kinds.Kind.{Kind};
+ghost use Rattle.lw_pbuf.specs.Homes.{home_of};
 ghost use Rattle.lw_core.specs.Held.{held_by, MakesRam};
 
 mod rounds;
@@ -56,7 +57,11 @@ fn stack<P: Payload>(alloc: Global) -> Result<Core<P>, AllocError>
 }
 
 /// A seat that keeps the pbufs of POOL.
-fn seat(alloc: Global) -> Result<PoolSeat, AllocError> {
+fn seat(alloc: Global) -> Result<PoolSeat, AllocError>
+    ensures ram { IfOk result (λ s. MakesRam (home_of s)) }
+    ensures pool { IfOk result (λ s. IsTrue ((home_of s).pools.makes Kind.Pool)) }
+    ensures none { IfOk result (λ s. s.makes.made + s.makes.refused ≡ 0) }
+{
     PoolSeat::new(alloc, &LIMITS, true)
 }
 
