@@ -1,5 +1,5 @@
 -- What a core holds stays of its Home, whatever comes of an event.
-use Rattle.std.proofs.Common.{ℕ, ◌≡◌, ◌++◌, List, [], ◌∷◌, ap, flat_map, subst, sym, arith}
+use Rattle.std.proofs.Common.{ℕ, ◌≡◌, ◌++◌, List, [], ◌∷◌, All, ap, flat_map, subst, sym, refl, arith}
 use Rattle.std.specs.List.{AllZip}
 use Rattle.lw_payload.specs.declared.kinds.Kind.{Kind}
 use Rattle.lw_payload.specs.Views.{View, HomeView}
@@ -7,7 +7,7 @@ use Rattle.lw_payload.specs.Calls.{IsSameButRoom}
 use Rattle.lw_payload.specs.Totals.{IsOwned, IsSameTotal, IsSum, Moves, Total, total}
 use Rattle.lw_payload.proofs.TotalLaws.{IsOwned-moved, IsOwned-right, IsOwned-same, IsSameTotal-room, IsSameTotal-self, IsSum-append, IsSum-cons}
 use Rattle.lw_core.specs.Held.{CoreSeen, IsSameCore, held_by}
-use Rattle.lwip_run.specs.Plain.{IsAtHome}
+use Rattle.lwip_run.specs.Plain.{IsAtHome, IsBody, NeverRefuses}
 
 -- sums of the same are the same
 same_sum : (t u v t' u' v' : Total) → IsSum t u v → IsSum t' u' v' → IsSameTotal u u' → IsSameTotal v v' → IsSameTotal t t'
@@ -38,6 +38,17 @@ same_core {P} seen family c d same =
     (total seen family (held_by d)) (total seen family d.waiting) (total seen family (kept d))
     (IsSum-append seen family c.waiting (kept c)) (IsSum-append seen family d.waiting (kept d)) waiting
     (same_but_room seen family (kept c) (kept d) same.kept)
+
+-- a core that holds nothing is of any Home
+pub begins_home : {P H : Type 0} (seen : P → View) (home_seen : H → HomeView) (may_refuse : H → H → Kind → ℕ → Type 0) (home : H) (held : List P) (left : List (List ℕ))
+    → NeverRefuses home_seen may_refuse → held ≡ [] → All IsBody left → IsAtHome seen home_seen may_refuse home held left
+begins_home {P} seen home_seen may_refuse home held left never none frames =
+    let h = home_seen home in
+    record {
+      never = never;
+      owned = subst (λ (ps : List P). IsOwned h (total seen h.pools.family ps)) (sym none) (record { rows = λ s. omega arith; strangers = refl });
+      frames = frames;
+    }
 
 -- a core that is the same but for room, at a Home that is seen as before
 pub same_home : {P H : Type 0} (seen : P → View) (home_seen : H → HomeView) (may_refuse : H → H → Kind → ℕ → Type 0) (home after : H) (c d : CoreSeen P)

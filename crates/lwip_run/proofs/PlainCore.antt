@@ -1,13 +1,10 @@
 -- What a core over payloads needs of them, and what its step leaves where none is refused.
-use Rattle.std.proofs.Common.{ℕ, ◌≡◌, ◌+◌, ◌^◌, ◌≤◌, ◌<◌, ◌++◌, ◌∙◌, Bool, true, false, List, [], ◌∷◌, length, map, All, Option, Some, None, ap, sym, subst, refl, arith}
+use Rattle.std.proofs.Common.{ℕ, ◌≡◌, ◌++◌, ◌∙◌, Bool, true, false, List, [], ◌∷◌, map, All, Option, Some, None, ap, sym, refl, arith}
 use Rattle.std.specs.Prelude.{option_to_list}
 use Rattle.std.proofs.lemmas.List.Elements.{All-rest, All-same, All-weaker}
 use Rattle.lw_payload.specs.declared.kinds.Kind.{Kind}
 use Rattle.lw_payload.specs.declared.kinds.Kind.TheVariants.{Ram, Pool}
-use Rattle.lw_payload.specs.Views.{View, HomeView, plain_home}
-use Rattle.lw_payload.specs.Calls.{IsMade, KeepsHome}
-use Rattle.lw_payload.specs.Totals.{IsOwned, IsSum, total}
-use Rattle.lw_payload.proofs.TotalLaws.{IsSum-cons, stranger-none}
+use Rattle.lw_payload.specs.Views.{HomeView, plain_home}
 use Rattle.lw_events.specs.declared.event.Event.{Event}
 use Rattle.lw_events.specs.declared.event.Event.TheVariants.{Frame, Stop}
 use Rattle.lw_events.specs.declared.event.Reply.{Reply}
@@ -40,21 +37,6 @@ frames_bodies frames short = All-weaker IsFrame IsBody (λ frame few. omega arit
 pub rest_bodies : (first : Option (List ℕ)) (before after : List (List ℕ)) → before ≡ option_to_list first ++ after → All IsBody before → All IsBody after
 rest_bodies (Some frame) before after is short = All-rest IsBody frame after before is short
 rest_bodies None before after is short = All-same IsBody after before (sym is) short
-
--- what is made is owned beside what was owned
-pub made_owned : {P : Type 0} (seen : P → View) (h k : HomeView) (kind : Kind) (octets : List ℕ) (p : P) (held : List P)
-    → IsMade h k kind octets (seen p) → k.pools ≡ h.pools → length octets < 2 ^ 32
-    → IsOwned h (total seen h.pools.family held) → IsOwned k (total seen k.pools.family (p ∷ held))
-made_owned seen h k kind octets p held m same short owned =
-    let family : k.pools.family ≡ h.pools.family = ap (λ pools. pools.family) same in
-    let sum = IsSum-cons seen h.pools.family p held in
-    let few : length (seen p).octets < 2 ^ 32 = subst (λ (l : List ℕ). length l < 2 ^ 32) (sym m.octets) short in
-    let known = stranger-none h.pools.family (seen p) m.family few in
-    subst (λ (f : List ℕ). IsOwned k (total seen f (p ∷ held))) (sym family)
-    (record {
-      rows = λ s. let r = sum.rows s in let o = owned.rows s in let e = m.rows s in omega arith;
-      strangers = let n = sum.strangers in let o = owned.strangers in omega (arith, known);
-    })
 
 -- no event posts yet
 posts_none : (s : State) (event : Event (List ℕ)) (short : Bool) (places : List Bool) → (step s event (record { short = short; places = places })).posts ≡ []

@@ -1,7 +1,7 @@
 -- Worked runs, computed by the definitions.
 use Rattle.std.proofs.Common.{◌≡◌, [], ◌∷◌, refl}
 use Rattle.lw_script.proofs.Rows.{serial_script}
-use Rattle.lw_transcript.proofs.Rows.{arp_request, no_frames, request}
+use Rattle.rows.proofs.Transcripts.{arp_request, no_frames, request}
 use Rattle.lw_rules.specs.Schedule.{serial_transcript}
 
 -- a request for the own address is answered

@@ -1,5 +1,5 @@
 use Rattle.lw_payload.specs.declared.kinds.Kind.TheVariants.{Pool}
-use Rattle.lwip_run.proofs.PlainCore.{made_owned}
+use Rattle.lw_core.proofs.OwnLaws.{made_owned}
 use Rattle.lwip_run.proofs.plain_api.made_frame.Goals as goal
 
 pub returns-in-Ok-clause-owned : goal.returns-in-Ok-clause-owned
