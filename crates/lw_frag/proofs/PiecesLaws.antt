@@ -10,6 +10,7 @@ use Rattle.std.proofs.lemmas.List.FromFn.{length-map-range_with_len}
 use Rattle.std.specs.Int.{div_ceil}
 use Rattle.std.specs.List.{flat_map, range_with_len}
 use Rattle.lw_base.specs.declared.heads.IpHead.{IpHead}
+use Rattle.lw_frag.specs.Laws.{IsPieceOf, Join}
 use Rattle.lw_frag.specs.Pieces.{Piece, full_count, full_len, full_octets, full_pieces, octets_of, piece, pieces_of}
 
 -- a full fragment carries a multiple of 8
@@ -55,11 +56,6 @@ full_octets-rounded len mtu big =
 pub last-fits : (len mtu : ℕ) → 28 ≤ mtu → 20 + (len - full_octets len mtu) ≤ mtu
 last-fits len mtu big = let r = (full_octets-rounded len mtu big).enough in omega arith
 
--- the fragments begin at a place, each where the one before it ends, and the last ends at an end
-abbrev pub Join : ℕ → ℕ → List Piece → Type 0
-Join from end [] = from ≡ end
-Join from end (p ∷ ps) = (p.1 ≡ from) × Join (p.1 + p.2) end ps
-
 -- full fragments join, and others may follow
 join_full : (h : IpHead) (len end i n : ℕ) (rest : List Piece) → Join ((i + n) * len) end rest
     → Join (i * len) end (map (λ k. piece h (k * len) len true) (range_with_len i n) ++ rest)
@@ -104,15 +100,6 @@ pieces-spell h body mtu big =
     (join-spell body 0 (length body) (pieces_of h (length body) mtu) (pieces-join h (length body) mtu big) (omega arith)).1
     ∙ take_all (length body - 0) body (omega arith)
 
--- what each fragment of a packet is: the packet's header but for the total, the offset and MF, and a range of the data at a multiple of 8 that
--- fits the MTU behind the header, and is empty only where there is no data
-pub record IsPieceOf (h : IpHead) (len mtu : ℕ) (p : Piece) : Type 0 where
-  pub head : p.0 ≡ record h { total = 20 + p.2; offset = p.1; mf = p.0.mf }
-  pub fits : 20 + p.2 ≤ mtu
-  pub place : p.1 % 8 ≡ 0
-  pub within : p.1 + p.2 ≤ len
-  pub some : 0 < len → 0 < p.2
-
 -- what holds of the fragment at each place holds of all
 all_full : (P : Piece → Type 0) (f : ℕ → Piece) (a n : ℕ) → ((k : ℕ) → k < a + n → P (f k)) → All P (map f (range_with_len a n))
 all_full P f a zero each = All-nil P
@@ -143,6 +130,7 @@ each_of h len mtu count big rounded =
     (record { head = refl; fits = omega arith; place = full-place count mtu; within = omega arith; some = λ h. let left = rounded.left h in omega arith })
     (All-nil (IsPieceOf h len mtu)))
 
+-- what each fragment of a packet is
 pub pieces-each : (h : IpHead) (len mtu : ℕ) → 28 ≤ mtu → All (IsPieceOf h len mtu) (pieces_of h len mtu)
 pieces-each h len mtu big = each_of h len mtu (full_count len mtu) big (full_octets-rounded len mtu big)
 

@@ -10,7 +10,8 @@ use Rattle.lw_base.specs.declared.addresses.Mac.{Mac}
 use Rattle.lw_base.specs.declared.addresses.Net.{Net}
 use Rattle.lw_base.specs.declared.heads.IpHead.{IpHead}
 use Rattle.lw_frag.specs.Pieces.{Piece, IsWhole, full_count, full_len, full_octets, full_pieces, octets_of, piece, pieces_of}
-use Rattle.lw_frag.proofs.PiecesLaws.{IsPieceOf, last-fits, pieces-each}
+use Rattle.lw_frag.specs.Laws.{IsPieceOf}
+use Rattle.lw_frag.proofs.PiecesLaws.{last-fits, pieces-each}
 use Rattle.lw_wire.specs.Ip.{ip_spelling}
 use Rattle.lw_link.specs.Way.{mtu, packet, packet_frame, packets, IsPacket}
 use Rattle.lw_link.specs.Plans.{IsReady}

@@ -18,7 +18,8 @@ use Rattle.lw_arp.specs.declared.entries.Lesson.{Lesson}
 use Rattle.lw_arp.specs.declared.entries.Lesson.TheVariants.{Nothing, Update, Make}
 use Rattle.lw_arp.specs.Neighbours.{added, changed, entry_of, is_answered, is_of, learnt, lesson, let_out, looked_up, pending, place_to_free, released, stable, state_by, state_of, taught, told, with_room, without}
 use Rattle.lw_frag.specs.Pieces.{Piece, octets_of, pieces_of}
-use Rattle.lw_frag.proofs.PiecesLaws.{IsPieceOf, pieces-each}
+use Rattle.lw_frag.specs.Laws.{IsPieceOf}
+use Rattle.lw_frag.proofs.PiecesLaws.{pieces-each}
 use Rattle.lw_wire.specs.Ip.{ip_spelling}
 use Rattle.lw_link.proofs.FrameLaws.{length-ip_spelling}
 use Rattle.lw_link.specs.Sound.{IsShort, IsSix, IsSound, IsSoundWay}

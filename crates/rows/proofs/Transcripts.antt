@@ -1,4 +1,4 @@
--- Two runs and their transcripts, octet by octet.
+-- The transcripts of two runs, and their texts.
 use Rattle.std.specs.Prelude.{ℕ, ◌≡◌, false, List, [], ◌∷◌, ◌++◌, codes}
 use Rattle.std.specs.Fmt.{digits}
 use Rattle.std.proofs.Common.{refl}
@@ -15,12 +15,7 @@ use Rattle.lw_transcript.specs.declared.lines.Outcome.TheVariants.{Ok as OkOutco
 use Rattle.lw_transcript.specs.declared.lines.ActorPart.{ActorPart}
 use Rattle.lw_transcript.specs.declared.lines.Transcript.{Transcript}
 use Rattle.lw_transcript.specs.Transcript.{transcript_spelling}
-
--- who has 10.0.0.1, asked of all by 10.0.0.2
-abbrev pub request : List ℕ
-request =
-    255 ∷ 255 ∷ 255 ∷ 255 ∷ 255 ∷ 255 ∷ 2 ∷ 0 ∷ 0 ∷ 0 ∷ 0 ∷ 2 ∷ 8 ∷ 6 ∷ 0 ∷ 1 ∷ 8 ∷ 0 ∷ 6 ∷ 4 ∷ 0 ∷
-    1 ∷ 2 ∷ 0 ∷ 0 ∷ 0 ∷ 0 ∷ 2 ∷ 10 ∷ 0 ∷ 0 ∷ 2 ∷ 0 ∷ 0 ∷ 0 ∷ 0 ∷ 0 ∷ 0 ∷ 10 ∷ 0 ∷ 0 ∷ 1 ∷ []
+use Rattle.rows.specs.Worked.{no_frames_text, request, request_text}
 
 -- 10.0.0.1 answers
 abbrev pub answer : List ℕ
@@ -75,32 +70,11 @@ no_frames = record {
 }
 
 -- its text
-pub transcript_spelling-arp_request : transcript_spelling arp_request
-    ≡ codes "lwip 1 serial\n"
-    ++ codes "core 1 0 frame ffffffffffff020000000002080600010800060400010200000000020a0000020000000000000a000001 -> ok\n"
-    ++ codes "out 020000000002020000000001080600010800060400020200000000010a0000010200000000020a000002\n"
-    ++ codes "core 2 0 stop -> ok\n"
-    ++ codes "actor 0\n"
-    ++ codes "call 1 feed all\n"
-    ++ codes "@1\n"
-    ++ codes "did fed 1\n"
-    ++ codes "call 2 stop\n"
-    ++ codes "@2\n"
-    ++ codes "did ok\n"
-    ++ codes "end core 2 out 1\n"
+pub transcript_spelling-arp_request : transcript_spelling arp_request ≡ request_text
 unfolding digits encode_with
 transcript_spelling-arp_request = refl
 
 -- its text
-pub transcript_spelling-no_frames : transcript_spelling no_frames
-    ≡ codes "lwip 1 serial\n"
-    ++ codes "core 1 0 stop -> ok\n"
-    ++ codes "actor 0\n"
-    ++ codes "call 1 feed all\n"
-    ++ codes "did fed 0\n"
-    ++ codes "call 2 stop\n"
-    ++ codes "@1\n"
-    ++ codes "did ok\n"
-    ++ codes "end core 1 out 0\n"
+pub transcript_spelling-no_frames : transcript_spelling no_frames ≡ no_frames_text
 unfolding digits encode_with
 transcript_spelling-no_frames = refl

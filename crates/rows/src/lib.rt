@@ -1,5 +1,5 @@
 //! Worked runs of the program over files and sinks in memory, with their inputs and outputs octet by
-//! octet: as tests, and two of them as theorems in `proofs/`.
+//! octet: as tests, and two of them by the definitions alone, as contracts.
 #![tactic(auto)]
 
 #[cfg(test)]
@@ -28,3 +28,7 @@ mod unreachable_cases;
 mod waiting_cases;
 #[cfg(test)]
 mod whole_cases;
+
+mod worked;
+
+pub use worked::{an_arp_request_is_answered, no_frames_are_fed, the_text_is_the_script};

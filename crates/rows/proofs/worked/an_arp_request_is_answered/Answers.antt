@@ -1,0 +1,5 @@
+use Rattle.rows.proofs.Worked.{request_text-spelled}
+use Rattle.rows.proofs.worked.an_arp_request_is_answered.Goals as goal
+
+pub returns : goal.returns
+returns c = request_text-spelled

@@ -1,0 +1,5 @@
+use Rattle.rows.proofs.Worked.{no_frames_text-spelled}
+use Rattle.rows.proofs.worked.no_frames_are_fed.Goals as goal
+
+pub returns : goal.returns
+returns c = no_frames_text-spelled

@@ -1,0 +1,5 @@
+use Rattle.rows.proofs.Worked.{serial_script_spelled}
+use Rattle.rows.proofs.worked.the_text_is_the_script.Goals as goal
+
+pub returns : goal.returns
+returns c = serial_script_spelled
