@@ -22,10 +22,11 @@ pub returns-in-Ok : goal.returns-in-Ok
 returns-in-Ok g c =
     let seen = g.F.Files.seen in
     let says = c.in_ok-says.says in
-    let frames = c.in_ok-says.frames in
-    (transcript_spelling (serial_transcript says frames),
-    text_of_both c.args.script.now c.args.capture.now (seen c.args.files.now) (seen c.serial_files.new.files) says frames c.in_ok-says.ensures,
-    c.in-Ok.ensures.ok)
+    let frames = c.in_ok-says.frames in (
+      transcript_spelling (serial_transcript says frames),
+      text_of_both c.args.script.now c.args.capture.now (seen c.args.files.now) (seen c.serial_files.new.files) says frames c.in_ok-says.ensures,
+      c.in-Ok.ensures.ok,
+    )
 
 pub returns : goal.returns
 returns g c =
