@@ -13,8 +13,8 @@ use std::alloc::AllocError;
 use std::sync::Wait;
 use std::{hint, thread};
 
-/// How often a caller looks whether the lock is free, before it yields its thread.
-const LOOKS: u32 = 100;
+/// How often a caller pauses at most, before it looks again whether the lock is free.
+const MOST_PAUSES: u32 = 64;
 
 /// Takes the lock if it is free, and says whether it did.
 #[inline(always)]
@@ -28,6 +28,20 @@ fn try_take<O: Serial>(steps: &Steps<O>, seat: &mut Place<O>) -> bool
     word % 2 == 0 && steps.compare_exchange::<Take<O>>(seat, 0, word, word + 1) == word
 }
 
+/// Pauses, and says how often to pause the next time: twice as often, up to the most. From then on the thread is yielded too.
+#[cold]
+#[inline(never)]
+fn back_off(pauses: u32) -> u32 {
+    for _ in 0..pauses {
+        hint::spin_loop();
+    }
+    if pauses < MOST_PAUSES {
+        return 2 * pauses;
+    }
+    thread::yield_now();
+    pauses
+}
+
 /// Waits until the lock is free, and takes it.
 pub(crate) fn take<O: Serial, R: Wait>(rt: &R, steps: &Steps<O>, seat: &mut Place<O>)
     requires board { (seat.old.table_id ≡ steps.now.table_id) × IsBoard steps.now.table_id }
@@ -35,14 +49,12 @@ pub(crate) fn take<O: Serial, R: Wait>(rt: &R, steps: &Steps<O>, seat: &mut Plac
     ensures board { (seat.new.table_id ≡ seat.old.table_id) × (seat.new.id ≡ seat.old.id) }
     ensures taken { (k : _) × IsInside O.state O.tag O.by O.steps steps.now.key.value (part_of seat.old.me.0) k seat.new.me }
 {
+    let mut pauses = 1;
     for _ in rt.forever() {
-        for _ in 0..LOOKS {
-            if try_take(steps, seat) {
-                return;
-            }
-            hint::spin_loop();
+        if try_take(steps, seat) {
+            return;
         }
-        thread::yield_now();
+        pauses = back_off(pauses);
     }
     unreachable!()
 }
