@@ -8,6 +8,8 @@ pub struct Caller<O: Serial> {
     pub(crate) seat: Place<O>,
     pub(crate) number: u32,
     pub(crate) splits: u32,
+    /// The word of the lock as it left it last, which is tried first. No contract speaks of it.
+    pub(crate) word: u64,
 }
 
 impl<O: Serial> Model for Caller<O> {
@@ -41,6 +43,7 @@ impl<O: Serial> Caller<O> {
             seat,
             number: _,
             splits: _,
+            word: _,
         } = self;
         seat
     }
@@ -52,6 +55,7 @@ impl<O: Serial> Drop for Caller<O> {
             seat,
             number: _,
             splits: _,
+            word: _,
         } = self;
         drop(seat);
     }

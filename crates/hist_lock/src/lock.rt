@@ -86,6 +86,7 @@ impl<O: Serial> HistLock<O> {
                     seat,
                     number: 0,
                     splits: 0,
+                    word: 0,
                 },
             )),
             Err(Refused { mut slots }) => {
@@ -113,8 +114,8 @@ impl<O: Serial> HistLock<O> {
         ensures history { HasHistory O.state O.by O.steps self.now.start who.new }
     {
         let steps = &self.table.shared;
-        take(rt, steps, &mut who.seat);
-        step_and_give(steps, &mut who.seat, who.number, ev)
+        take(rt, steps, &mut who.seat, who.word);
+        step_and_give(steps, &mut who.seat, &mut who.word, who.number, ev)
     }
 
     /// A second caller with the next number, which has seen what the first has, and made no entry.
@@ -133,6 +134,7 @@ impl<O: Serial> HistLock<O> {
                 seat,
                 number,
                 splits: 0,
+                word: 0,
             },
         )
     }

@@ -1,5 +1,5 @@
 -- Chains that are made, or refused.
-use Rattle.std.proofs.Common.{◌≡◌, ℕ, suc, ◌+◌, ◌-◌, ◌*◌, ◌^◌, ◌<◌, ◌≤◌, Bool, true, false, cond, List, ◌++◌, length, refl, sym, ap, ◌∙◌, subst, arith, length-append}
+use Rattle.std.proofs.Common.{◌≡◌, ℕ, suc, ◌+◌, ◌-◌, ◌*◌, ◌^◌, ◌<◌, ◌≤◌, Bool, true, false, cond, List, ◌++◌, length, take, min, refl, sym, ap, ◌∙◌, subst, arith, length-append}
 use mathlib.Core.Logic.{dite}
 use native.Mathlib.Decide.{dec_le}
 use Rattle.std.proofs.Common.{Result, Ok, Err}
@@ -20,7 +20,7 @@ use Rattle.pbuf_seats.specs.Seats.{SeatSeen}
 use Rattle.pbuf_spans.specs.Parts.{Part, joined, all_own, rows_in, weight_in, IsSpent, GivesBack}
 use Rattle.lw_pbuf.specs.Chains.{ChainSeen, IsOf}
 use Rattle.lw_pbuf.specs.Takes.{claims_in, is_counted, places_of, free_in, AreTaken, AllTried}
-use Rattle.lw_pbuf.specs.Makes.{granted_of, denied_of, IsAlloc, IsDenied, KeepsSeat}
+use Rattle.lw_pbuf.specs.Makes.{body_of, granted_of, denied_of, IsAlloc, IsDenied, KeepsSeat}
 use Rattle.lw_pbuf.proofs.Tried.{kept_full, counted_full, claimed_there, places_law}
 use Rattle.lw_pbuf.proofs.Taken.{counted_same}
 
@@ -60,13 +60,15 @@ abbrev pub counted_as : SeatSeen → SeatSeen → SeatSeen
 counted_as k l = record k { makes = l.makes; claimed = l.claimed }
 
 module _ (h k l : SeatSeen) (kind : Kind) (ps : List Part) (a : AreTaken h k kind ps) (same : l ≡ counted_as k l) where
-  pub alloc_made : (c : ChainSeen) (text : List ℕ) → c.parts ≡ ps → c.table ≡ h.holder.table → all_own ps ≡ true → joined ps ≡ text → length ps ≡ pbufs_of kind (length text) → l.makes ≡ granted_of kind (length text) k.makes → IsAlloc h l kind text c
-  alloc_made c text is table own octets parts makes =
+  pub alloc_made : (c : ChainSeen) (text : List ℕ) → c.parts ≡ ps → c.table ≡ h.holder.table → all_own ps ≡ true → joined ps ≡ text → length ps ≡ pbufs_of kind (length text)
+      → ((i : ℕ) → length (joined (take i ps)) ≡ min (i * body_of kind) (length text)) → l.makes ≡ granted_of kind (length text) k.makes → IsAlloc h l kind text c
+  alloc_made c text is table own octets parts full makes =
       let w = weighs_all h k kind ps (pbufs_of kind (length text)) (is_counted h kind) a parts refl in
       let g = a.gives in
       record {
         octets = ap joined is ∙ octets;
         parts = ap (λ (x : List Part). length x) is ∙ parts;
+        full = λ i. ap (λ (x : List Part). length (joined (take i x))) is ∙ full i;
         fresh = ap all_own is ∙ own;
         adds = All-same (λ (p : Part). adds_of p.owner ≡ first_adds) c.parts ps is a.adds;
         table = table;

@@ -3,6 +3,7 @@ use Rattle.std.proofs.Common.{◌≡◌, ℕ, ◌+◌, ◌-◌, ◌*◌, ◌<◌
 use Rattle.std.specs.Option.{IfSome, IsSome, IsNone}
 use Rattle.std.specs.Prelude.{◌↔◌}
 use Rattle.std.proofs.lemmas.Bool.{false≢true}
+use Rattle.std.proofs.lemmas.List.{take-append-le, take_all}
 use Rattle.std.proofs.lemmas.List.Sums.{sum_by_push}
 use Rattle.std.proofs.lemmas.List.Elements.{All-push, All-nil, All-cons}
 use mathlib.Core.Logic.{dite}
@@ -37,6 +38,20 @@ one_body Ram n m some fits is = omega arith
 one_body Pool n m some fits is = omega arith
 one_body Rom n m some fits is = omega arith
 one_body Ref n m some fits is = omega arith
+
+-- what the next body leaves of n octets, where the first a took as much as they can
+next_full : (kind : Kind) (a n m left len : ℕ) → m ≡ min (a * body_of kind) n → m + left ≡ n → len ≡ min left (body_of kind) → m + len ≡ min ((a + 1) * body_of kind) n
+next_full Ram a n m left len before sum is = omega arith
+next_full Pool a n m left len before sum is = omega arith
+next_full Rom a n m left len before sum is = omega arith
+next_full Ref a n m left len before sum is = omega arith
+
+-- a bodies have room for n octets, and so have more
+all_full : (kind : Kind) (a i n : ℕ) → n ≡ min (a * body_of kind) n → a ≤ i → n ≡ min (i * body_of kind) n
+all_full Ram a i n fits more = omega arith
+all_full Pool a i n fits more = omega arith
+all_full Rom a i n fits more = omega arith
+all_full Ref a i n fits more = omega arith
 
 -- a body has some of them
 some_octets : (kind : Kind) (n : ℕ) → 0 < n → 0 < min n (body_of kind)
@@ -328,6 +343,7 @@ pub record Fills (h k : SeatSeen) (kind : Kind) (text : List ℕ) (ps : List Pbu
   pub some : All (λ p. 0 < p.len) ps
   pub sum : lens ps + left ≡ length text
   pub few : length ps + pbufs_of kind left ≡ pbufs_of kind (length text)
+  pub full : (i : ℕ) → i ≤ length ps → lens (take i ps) ≡ min (i * body_of kind) (length text)
 
 pub fills_first : (h : SeatSeen) (kind : Kind) (text : List ℕ) (ps : List Pbuf) (places from : ℕ) → ps ≡ [] → Fills h h kind text ps (length text) places from from
 fills_first h kind text ps places from none = subst (λ (l : List Pbuf). Fills h h kind text l (length text) places from from) (sym none) record {
@@ -336,7 +352,29 @@ fills_first h kind text ps places from none = subst (λ (l : List Pbuf). Fills h
   some = All-nil (λ (p : Pbuf). 0 < p.len);
   sum = omega arith;
   few = omega arith;
+  full = λ i none. let z : i ≡ 0 = omega arith in subst (λ (j : ℕ). let none : List Pbuf = [] in lens (take j none) ≡ min (j * body_of kind) (length text)) (sym z) (omega arith);
 }
+
+-- the pbufs and one more, of which each but the last has as many octets as it can
+full_next : (kind : Kind) (n : ℕ) (ps : List Pbuf) (p : Pbuf) (left : ℕ) → ((i : ℕ) → i ≤ length ps → lens (take i ps) ≡ min (i * body_of kind) n) → lens ps + left ≡ n → p.len ≡ min left (body_of kind)
+    → (i : ℕ) → i ≤ length (ps ++ p ∷ []) → lens (take i (ps ++ p ∷ [])) ≡ min (i * body_of kind) n
+full_next kind n ps p left full sum len i within =
+    let longer = length-append ps (p ∷ []) in
+    let all : lens (take (length ps) ps) ≡ lens ps = ap lens (take_all (length ps) ps (omega arith)) in
+    let before = full (length ps) (omega arith) in
+    let wider = sum_by_push (λ (q : Pbuf). q.len) ps p in
+    dite (dec_le i (length ps)) (λ old. ap lens (take-append-le i ps (p ∷ []) old) ∙ full i old)
+    (λ new. let e : i ≡ length ps + 1 = omega arith in
+    ap lens (take_all i (ps ++ p ∷ []) (omega arith)) ∙ (wider ∙ (next_full kind (length ps) n (lens ps) left p.len (sym all ∙ before) sum len ∙ ap (λ (j : ℕ). min (j * body_of kind) n) (sym e))))
+
+-- the pbufs once all octets are taken
+pub full_all : (h k : SeatSeen) (kind : Kind) (text : List ℕ) (ps : List Pbuf) (left places from turn : ℕ) → Fills h k kind text ps left places from turn → left ≡ 0 → (i : ℕ) → lens (take i ps) ≡ min (i * body_of kind) (length text)
+full_all h k kind text ps left places from turn f none i =
+    let sum = f.sum in
+    let whole : lens ps ≡ length text = omega arith in
+    let all : lens (take (length ps) ps) ≡ lens ps = ap lens (take_all (length ps) ps (omega arith)) in
+    let last : length text ≡ min (length ps * body_of kind) (length text) = sym whole ∙ (sym all ∙ f.full (length ps) (omega arith)) in
+    dite (dec_le i (length ps)) (λ old. f.full i old) (λ new. ap lens (take_all i ps (omega arith)) ∙ (whole ∙ all_full kind (length ps) i (length text) last (omega arith)))
 
 -- an owner was taken for the next pbuf
 pub fills_next : (h k l : SeatSeen) (kind : Kind) (text : List ℕ) (ps qs : List Pbuf) (p : Pbuf) (left rest places from turn turn' : ℕ) → Fills h k kind text ps left places from turn → length text ≤ 65535 → 0 < left → p.len ≡ min left (body_of kind)
@@ -354,6 +392,7 @@ fills_next h k l kind text ps qs p left rest places from turn turn' f short more
       some = All-push (λ (q : Pbuf). 0 < q.len) ps p f.some (omega arith);
       sum = omega arith;
       few = omega arith;
+      full = full_next kind (length text) ps p left f.full sum len;
     }
 
 -- no pbuf was left for the next one: all places were tried

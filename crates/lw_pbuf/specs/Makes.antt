@@ -1,5 +1,5 @@
 -- How a chain is made, or refused.
-use Rattle.std.specs.Prelude.{◌≡◌, ℕ, ◌+◌, ◌-◌, ◌*◌, ◌^◌, ◌<◌, ◌≤◌, true, false, if◌then◌else◌, List, ◌++◌, length, min, All}
+use Rattle.std.specs.Prelude.{◌≡◌, ℕ, ◌+◌, ◌-◌, ◌*◌, ◌^◌, ◌<◌, ◌≤◌, true, false, if◌then◌else◌, List, ◌++◌, length, take, min, All}
 use Rattle.lw_payload.specs.declared.kinds.Kind.{Kind}
 use Rattle.lw_payload.specs.declared.kinds.Kind.TheVariants.{Ram, Pool, Rom, Ref}
 use Rattle.lw_payload.specs.Views.{Slot, pbufs_of, pool_one}
@@ -45,10 +45,12 @@ denied_of Pool n m = record m { refused = m.refused + 1; last_refused = n; asked
 denied_of Rom n m = m
 denied_of Ref n m = m
 
--- a chain of these octets was made: in as few pbufs as hold them, each of the kind, free until then and with its first owner, which came from the seat h, which is k then
+-- a chain of these octets was made: in as few pbufs as hold them, of which the first i have i times as many as a pbuf has at most, where there are so many; each of the kind,
+-- free until then and with its first owner, which came from the seat h, which is k then
 pub record IsAlloc (h k : SeatSeen) (kind : Kind) (text : List ℕ) (c : ChainSeen) : Type 0 where
   pub octets : joined c.parts ≡ text
   pub parts : length c.parts ≡ pbufs_of kind (length text)
+  pub full : (i : ℕ) → length (joined (take i c.parts)) ≡ min (i * body_of kind) (length text)
   pub fresh : all_own c.parts ≡ true
   pub adds : All (λ p. adds_of p.owner ≡ first_adds) c.parts
   pub table : c.table ≡ h.holder.table

@@ -1,5 +1,5 @@
 //! How the pbufs of a chain are taken.
-ghost use Rattle.std.specs.Prelude.{◌≡◌, ◌+◌, ◌-◌, ◌^◌, ◌<◌, ◌≤◌, [], length, vec_capacity, All, IfSome, IsNone, true, false};
+ghost use Rattle.std.specs.Prelude.{◌≡◌, ℕ, ◌+◌, ◌-◌, ◌*◌, ◌^◌, ◌<◌, ◌≤◌, [], length, take, min, vec_capacity, All, IfSome, IsNone, true, false};
 ghost use Rattle.lw_payload.specs.declared.kinds.Kind.{Kind};
 ghost use Rattle.lw_payload.specs.Views.{pbufs_of};
 ghost use Rattle.pbuf_spans.specs.Spans.{lens, parts_of};
@@ -155,6 +155,7 @@ pub(crate) fn fill(seat: &mut PoolSeat, kind: Kind, octets: &[u8], pbufs: &mut V
     ensures taken { AreTaken seat.old seat.new kind (parts_of true octets.now pbufs.new.items) }
     ensures some { All (λ p. 0 < p.len) pbufs.new.items }
     ensures all { result ≡ true → (lens pbufs.new.items ≡ length octets.now) × (length pbufs.new.items ≡ pbufs_of kind (length octets.now)) }
+    ensures full { result ≡ true → (i : ℕ) → lens (take i pbufs.new.items) ≡ min (i * body_of kind) (length octets.now) }
     ensures tried { result ≡ false → AllTried seat.old seat.new kind × (length pbufs.new.items < pbufs_of kind (length octets.now)) }
     ensures places { places_of seat.old kind < 2 ^ 32 }
 {

@@ -1,4 +1,4 @@
-use Rattle.std.proofs.Common.{rules, ◌≡◌, ℕ, List, length, All, true, refl, sym, ap, ◌∙◌, subst, arith}
+use Rattle.std.proofs.Common.{rules, ◌≡◌, ℕ, ◌*◌, List, length, min, All, true, refl, sym, ap, ◌∙◌, subst, arith}
 use Rattle.std.specs.Arc.{arc_value}
 use Rattle.atomic_table.specs.Seated.{TableId}
 use Rattle.lw_payload.specs.declared.kinds.Kind.{Kind}
@@ -9,10 +9,10 @@ use Rattle.pbuf_seats.specs.Seats.{SeatSeen}
 use Rattle.pbuf_spans.specs.Parts.{Part, IsUnder, IsChain, GivesBack}
 use Rattle.pbuf_spans.specs.Spans.{parts_of}
 use Rattle.lw_pbuf.specs.Takes.{AreTaken}
-use Rattle.lw_pbuf.specs.Makes.{granted_of, denied_of}
+use Rattle.lw_pbuf.specs.Makes.{body_of, granted_of, denied_of}
 use Rattle.pbuf_spans.proofs.Cutting.{all_spent}
 use Rattle.pbuf_spans.proofs.Spans.{length-parts_of, joined_all, owners_held, rows_in-parts_of}
-use Rattle.lw_pbuf.proofs.Bodies.{parts_of-own, parts_of-some}
+use Rattle.lw_pbuf.proofs.Bodies.{parts_of-own, parts_of-some, length-begin}
 use Rattle.lw_pbuf.proofs.Made.{few_pbufs, alloc_made, alloc_denied, denied_keeps}
 use Rattle.lw_pbuf.proofs.Taken.{pool_most}
 use Rattle.lw_pbuf.proofs.make.chain_of.Goals as goal
@@ -54,6 +54,7 @@ returns-then-fill-clause-made c =
     let len : c.len-octets.result ≡ length body = search rules in
     alloc_made c.args.seat.now c.fill.new.seat c.granted.new.seat c.args.kind (parts_of true body ps) taken g.same c.of-then-fill.result body (c.of-then-fill.ensures.parts ∙ c.of.ensures) (c.of-then-fill.ensures.table ∙ c.requires.table)
     (parts_of-own body ps) (joined_all true body ps (omega arith)) (length-parts_of true body ps ∙ (count ∙ ap (λ (t : List ℕ). pbufs_of c.args.kind (length t)) text))
+    (λ i. length-begin true body i ps (omega arith) ∙ (c.fill.ensures.full c.if-fill.true i ∙ ap (λ (t : List ℕ). min (i * body_of c.args.kind) (length t)) text))
     (g.makes ∙ ap (λ (n : ℕ). granted_of c.args.kind n c.fill.new.seat.makes) len)
 
 pub denied-requires-clause-few : goal.denied-requires-clause-few
