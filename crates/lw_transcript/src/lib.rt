@@ -1,10 +1,12 @@
 //! The transcript of a run: its lines as values, and their text.
 #![tactic(auto)]
 
+mod laws;
 mod lines;
 mod page;
 mod spelling;
 
+pub use laws::a_text_is_of_one_transcript;
 pub use lines::{
     ActorPart, ActorPartList, Body, CallPart, CallPartList, CoreLine, CoreLineList, EndLine,
     Evidence, EvidenceList, Kind, Outcome, Transcript, Version,
