@@ -134,7 +134,7 @@ pub record IsBehindCore (r : List ℕ) : Type 0 where
 
 -- with other octets no post begins, and no frame
 pub behind_core : (r : List ℕ) → first r ≢ 112 → first r ≢ 102 → first r ≢ 111 → IsBehindCore r
-behind_core r no_post no_full no_out = record { post = λ b. elim b [ | inl p ↦ no_post p | inr f ↦ no_full f ]; out = no_out }
+behind_core r no_post no_full no_out = record { post = λ b. elim b [ inl p ↦ no_post p | inr f ↦ no_full f ]; out = no_out }
 
 -- nor does one behind frames
 outs_behind : (outs : List (List ℕ)) (r : List ℕ) → IsBehindCore r → BeginsPost (flat_map out_text outs ++ r) → ⊥
