@@ -13,6 +13,10 @@ pub record Named (K : Type 0) : Type 0 where
   pub places : ℕ
   pub key : K
 
+-- the pass is of this mailbox
+abbrev pub IsOf : {K : Type 0} → Named K → TableId → Option K → Type 0
+IsOf m table key = (table ≡ m.table) × (key ≡ Some m.key)
+
 -- a Put: its number, the number of the other Puts where it is the first, what it put in, and how many of these it knows as given
 pub record Sender (M K : Type 0) : Type 0 where
   pub table : TableId

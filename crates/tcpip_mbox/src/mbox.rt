@@ -4,7 +4,7 @@ ghost use mathlib.Core.List.{IsPrefix};
 ghost use Rattle.crossbeam_queue.specs.Passes.{view, IsPassOf, ruled_capacity};
 ghost use Rattle.tcpip_mbox.specs.Letters.{sent_by};
 ghost use Rattle.tcpip_mbox.specs.Views.{both_ways, firstborn};
-ghost use Rattle.tcpip_mbox.specs.Tokens.{letter, AreNumbered, ArePuts};
+ghost use Rattle.tcpip_mbox.specs.Tokens.{IsOf, letter, AreNumbered, ArePuts};
 
 use crate::get::Get;
 use crate::given::Given;
@@ -111,7 +111,7 @@ impl<M: Message<K>, K> TcpipMbox<M, K> {
     /// Puts a message in, at the end. It comes back only where the mailbox was full at a moment of the call, and to the first Put only where
     /// those of its messages that it doesn't know as given, with one of each other Put, are as many as there are places.
     pub fn put<R: Wait>(&self, rt: &R, put: &mut Put<M, K>, message: M) -> Result<(), M>
-        requires own { (put.old.table ≡ self.now.table) × (put.old.key ≡ Some self.now.key) }
+        requires own { IsOf self.now put.old.table put.old.key }
         requires fits { M.fits self.now.key put.old.number put.old.sent message }
         requires known { put.old.number ≢ 0 → put.old.known ≡ length put.old.sent }
         ensures ok { OnOk result (put.new ≡ record put.old { sent = put.old.sent ++ message ∷ [] }) }
@@ -130,7 +130,7 @@ impl<M: Message<K>, K> TcpipMbox<M, K> {
 
     /// Takes the oldest message out. None only where the mailbox was empty at a moment of the call.
     pub fn get<R: Wait>(&self, rt: &R, get: &mut Get<M, K>) -> Option<M>
-        requires own { (get.old.table ≡ self.now.table) × (get.old.key ≡ Some self.now.key) }
+        requires own { IsOf self.now get.old.table get.old.key }
         ensures same { (get.new.table ≡ get.old.table) × (get.new.key ≡ get.old.key) }
         ensures some { IfSome result (λ m. (n : ℕ) × M.fits self.now.key n (sent_by n get.old.given) m × (get.new.given ≡ get.old.given ++ letter n m ∷ [])) }
         ensures none { IfNone result (get.new ≡ get.old) }
@@ -143,7 +143,7 @@ impl<M: Message<K>, K> TcpipMbox<M, K> {
 
     /// A note of what was given so far. It waits for nobody.
     pub fn note(&self, get: &mut Get<M, K>) -> Given<M, K>
-        requires own { get.old.table ≡ self.now.table }
+        requires own { IsOf self.now get.old.table get.old.key }
         ensures same { get.new ≡ get.old }
         ensures note { result ≡ record { table = get.old.table; given = get.old.given } }
     {
@@ -153,7 +153,7 @@ impl<M: Message<K>, K> TcpipMbox<M, K> {
 
     /// The Put then knows as given all its messages that the note has. They are the first that it put in. It waits for nobody.
     pub fn meet(&self, put: &mut Put<M, K>, note: Given<M, K>)
-        requires own { put.old.table ≡ self.now.table }
+        requires own { IsOf self.now put.old.table put.old.key }
         requires note { note.table ≡ self.now.table }
         ensures known { put.new ≡ record put.old { known = max put.old.known (length (sent_by put.old.number note.given)) } }
         ensures prefix { IsPrefix (sent_by put.old.number note.given) put.old.sent }
@@ -164,8 +164,8 @@ impl<M: Message<K>, K> TcpipMbox<M, K> {
 
     /// Takes a Put back. What was given of it is the beginning of what it put in.
     pub fn gather(&self, get: &mut Get<M, K>, mut put: Put<M, K>)
-        requires own { get.old.table ≡ self.now.table }
-        requires put { put.table ≡ self.now.table }
+        requires own { IsOf self.now get.old.table get.old.key }
+        requires put { IsOf self.now put.table put.key }
         ensures same { get.new ≡ get.old }
         ensures prefix { IsPrefix (sent_by put.number get.old.given) put.sent }
     {

@@ -1,0 +1,5 @@
+pub mod Counts
+pub mod Letters
+pub mod Keeps
+pub mod Steps
+pub mod Sharing
