@@ -3,3 +3,4 @@ pub mod Letters
 pub mod Keeps
 pub mod Steps
 pub mod Sharing
+pub mod Puts

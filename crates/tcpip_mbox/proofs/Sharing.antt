@@ -1,21 +1,19 @@
 -- Passes that are cut and joined keep the rule.
-use Rattle.std.proofs.Common.{◌≡◌, ◌≢◌, ◌⊎◌, ℕ, zero, suc, ◌+◌, ◌≤◌, ltb, eqb, cond, max, All, sum_by, Bool, true, false, true≢false, List, [], ◌∷◌, ◌++◌, length, set, sym, refl, ap, ◌∙◌, subst, ⊎_elim, inl, inr, arith, Option, Some, None}
+use Rattle.std.proofs.Common.{◌≡◌, ◌≢◌, ℕ, zero, suc, ◌+◌, ◌≤◌, eqb, cond, All, Bool, true, false, true≢false, List, [], ◌∷◌, ◌++◌, set, sym, refl, ap, ◌∙◌, subst, ⊎_elim, inl, inr, arith, Option, Some, None}
 use Rattle.std.proofs.lemmas.Bool.Decides.{nat_tests}
 use Rattle.std.proofs.lemmas.List.Elements.{All-nil, All-weaker}
 use Rattle.std.proofs.lemmas.List.Sums.{sum_by-cons}
 use mathlib.Core.Option.{some, some-injective, some-ne-none}
-use mathlib.Core.List.{IsPrefix}
 use lib.ListN.{get_elem?}
 use Rattle.crossbeam_queue.specs.Fifo.{Forks, Merges}
-use Rattle.crossbeam_queue.proofs.Lists.{at_set, set_else}
+use Rattle.crossbeam_queue.proofs.Lists.{set_else}
 use Rattle.tcpip_mbox.specs.declared.view.Letter.{Letter}
 use Rattle.tcpip_mbox.specs.declared.view.View.{View}
-use Rattle.tcpip_mbox.specs.Letters.{sent_by, Fitting}
-use Rattle.tcpip_mbox.specs.Views.{putter, getter, teller, nobody, both_ways, firstborn, with_key, with_one_more, newest, putting, getting, telling, met}
-use Rattle.tcpip_mbox.specs.Rule.{up_to, getters_in, putters_in, Sends, Knows, Kept, Ruled}
-use Rattle.tcpip_mbox.proofs.Counts.{sum-set}
+use Rattle.tcpip_mbox.specs.Letters.{sent_by}
+use Rattle.tcpip_mbox.specs.Views.{nobody, both_ways, firstborn, with_key, with_one_more, newest, putting, getting, telling, met}
+use Rattle.tcpip_mbox.specs.Rule.{up_to, getters_in, putters_in, Knows, Kept, Ruled}
 use Rattle.tcpip_mbox.proofs.Letters.{prefix_length, sent_by-prefix, sent_by-none}
-use Rattle.tcpip_mbox.proofs.Keeps.{begun, other_putter, key_is, moves, forks, one_putter}
+use Rattle.tcpip_mbox.proofs.Keeps.{begun, other_putter, moves, forks}
 
 next_up : (n others : ℕ) → cond (eqb (others + 1) n) 1 0 + up_to others n ≤ up_to (others + 1) n
 next_up n others = grind (arith, nat_tests)

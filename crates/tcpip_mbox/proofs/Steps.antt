@@ -1,5 +1,5 @@
 -- The steps that put in, take out and learn keep the rule.
-use Rattle.std.proofs.Common.{◌≡◌, ◌≢◌, ◌⊎◌, ℕ, ◌+◌, ◌≤◌, All, Bool, true, false, true≢false, List, [], ◌∷◌, ◌++◌, length, set, sym, refl, ap, ◌∙◌, subst, inl, inr, arith, append_assoc, append-nil, length-append, Option, Some}
+use Rattle.std.proofs.Common.{◌≡◌, ◌≢◌, ℕ, ◌+◌, ◌≤◌, All, true, List, [], ◌∷◌, ◌++◌, length, set, sym, refl, ap, ◌∙◌, subst, inl, inr, arith, append_assoc, length-append, Some}
 use Rattle.std.proofs.lemmas.List.Elements.{All-nil, All-cons}
 use mathlib.Core.Option.{some}
 use mathlib.Core.Logic.{dite}
@@ -9,10 +9,10 @@ use lib.ListN.{get_elem?}
 use Rattle.crossbeam_queue.specs.Fifo.{Pushes, Pops, Learns}
 use Rattle.tcpip_mbox.specs.declared.view.Letter.{Letter}
 use Rattle.tcpip_mbox.specs.declared.view.View.{View}
-use Rattle.tcpip_mbox.specs.Letters.{sent_by, Fitting}
+use Rattle.tcpip_mbox.specs.Letters.{sent_by}
 use Rattle.tcpip_mbox.specs.Views.{sent_one, got_one}
-use Rattle.tcpip_mbox.specs.Rule.{Sends, Knows, Kept, Ruled}
-use Rattle.tcpip_mbox.proofs.Letters.{prefix_same, All-append, All-front, All-back, no-elements, sent_by-append, sent_by-same, sent_by-else, sent_by-prefix, Fitting-push, few_lie}
+use Rattle.tcpip_mbox.specs.Rule.{Sends, Kept, Ruled}
+use Rattle.tcpip_mbox.proofs.Letters.{prefix_same, All-append, All-back, no-elements, sent_by-append, sent_by-same, sent_by-else, sent_by-prefix, Fitting-push, few_lie}
 use Rattle.tcpip_mbox.proofs.Keeps.{begun, other_putter, other_getter, key_is, moves, knows_pushed, sends_popped, knows_popped}
 
 module _ {M K : Type 0} (fits : K → ℕ → List M → M → Type 0) where

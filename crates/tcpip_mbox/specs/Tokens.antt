@@ -1,11 +1,10 @@
 -- What callers see of a mailbox, its Puts, its Get and notes of it.
 use Rattle.std.specs.Prelude.{◌≡◌, ℕ, ◌+◌, ◌-◌, true, false, List, [], ◌∷◌, length, Option, Some}
 use Rattle.atomic_table.specs.Seated.{TableId}
-use Rattle.atomic_table.specs.declared.shared.Seat.{Seat}
 use Rattle.crossbeam_queue.specs.Passes.{Pass, view}
 use Rattle.tcpip_mbox.specs.declared.view.Letter.{Letter}
 use Rattle.tcpip_mbox.specs.declared.view.View.{View}
-use Rattle.tcpip_mbox.specs.Views.{teller, getter, putter}
+use Rattle.tcpip_mbox.specs.Views.{teller}
 
 -- a mailbox: which one, how many places it has, and what its messages fit
 pub record Named (K : Type 0) : Type 0 where

@@ -1,5 +1,5 @@
 -- What the passes know, and how it changes where one puts in, takes out, is split in two, or takes in another.
-use Rattle.std.specs.Prelude.{ℕ, ◌+◌, max, true, false, List, [], ◌∷◌, ◌++◌, length, Option, Some, None}
+use Rattle.std.specs.Prelude.{ℕ, ◌+◌, max, true, false, List, [], ◌∷◌, ◌++◌, length, Option, None}
 use Rattle.tcpip_mbox.specs.declared.view.Letter.{Letter}
 use Rattle.tcpip_mbox.specs.declared.view.View.{View}
 use Rattle.tcpip_mbox.specs.Letters.{sent_by}

@@ -135,10 +135,9 @@ impl<M: Message<K>, K> TcpipMbox<M, K> {
         ensures some { IfSome result (λ m. (n : ℕ) × M.fits self.now.key n (sent_by n get.old.given) m × (get.new.given ≡ get.old.given ++ letter n m ∷ [])) }
         ensures none { IfNone result (get.new ≡ get.old) }
     {
-        match self.queue.pop_as::<Got, R>(rt, &mut get.pass) {
-            Some(Letter { from: _, message }) => Some(message),
-            None => None,
-        }
+        let letter = self.queue.pop_as::<Got, R>(rt, &mut get.pass)?;
+        let Letter { from: _, message } = letter;
+        Some(message)
     }
 
     /// A note of what was given so far. It waits for nobody.

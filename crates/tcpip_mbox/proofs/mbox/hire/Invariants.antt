@@ -1,4 +1,4 @@
-use Rattle.std.proofs.Common.{◌≡◌, ◌≤◌, length, vec_capacity, Some}
+use Rattle.std.proofs.Common.{◌≡◌, length, vec_capacity, Some}
 use Rattle.crossbeam_queue.specs.Passes.{view, IsPassOf}
 use Rattle.tcpip_mbox.specs.Views.{both_ways}
 use Rattle.tcpip_mbox.specs.Tokens.{AreNumbered}
