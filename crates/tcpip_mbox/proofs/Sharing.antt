@@ -13,7 +13,7 @@ use Rattle.tcpip_mbox.specs.Letters.{sent_by}
 use Rattle.tcpip_mbox.specs.Views.{nobody, both_ways, firstborn, with_key, with_one_more, newest, putting, getting, telling, met}
 use Rattle.tcpip_mbox.specs.Rule.{up_to, getters_in, putters_in, Knows, Kept, Ruled}
 use Rattle.tcpip_mbox.proofs.Letters.{prefix_length, sent_by-prefix, sent_by-none}
-use Rattle.tcpip_mbox.proofs.Keeps.{begun, other_putter, moves, forks}
+use Rattle.tcpip_mbox.proofs.Keeps.{begun, other_putter, other_getter, moves, forks}
 
 next_up : (n others : ℕ) → cond (eqb (others + 1) n) 1 0 + up_to others n ≤ up_to (others + 1) n
 next_up n others = grind (arith, nat_tests)
@@ -30,15 +30,15 @@ module _ {M K : Type 0} (fits : K → ℕ → List M → M → Type 0) where
   knows_nobody key given items others = record { put_key = λ p. absurd (true≢false (sym p)); get_key = λ p. absurd (true≢false (sym p)); sends = λ p. absurd (true≢false (sym p)); gets = λ p. absurd (true≢false (sym p)); hears = (given, refl) }
 
   module _ (port : ℕ) (v : View M K) (key : K) (keyed : v.key ≡ Some key) where
-    hired : v.puts ≡ true → v.number ≡ 0 → (items : List (Letter M)) (views : List (View M K)) → Kept fits items views → get_elem? views port ≡ some v → Kept fits items (set views port (with_one_more v) ++ newest v ∷ [])
-    hired puts is items views r at = let k = r.each port v at in let s = k.sends puts in let same : v.others ≡ r.others = s.first is in
+    hired : v.puts ≡ true → v.gets ≡ true → v.number ≡ 0 → (items : List (Letter M)) (views : List (View M K)) → Kept fits items views → get_elem? views port ≡ some v → Kept fits items (set views port (with_one_more v) ++ newest v ∷ [])
+    hired puts gets is items views r at = let k = r.each port v at in let s = k.sends puts in let same : v.others ≡ r.others = s.first is in
         forks fits items views r port v at (with_one_more v) (newest v) (r.others + 1) (omega arith) (omega arith)
         (λ n. let a : putters_in n (newest v) ≡ cond (eqb (r.others + 1) n) 1 0 = ap (λ (o : ℕ). let z : ℕ = cond (eqb (o + 1) n) 1 0 in z) same in omega (arith, next_up n r.others))
         record {
           put_key = k.put_key;
           get_key = k.get_key;
           sends = λ _. record { all = s.all; below = let b = s.below in omega arith; first = λ _. ap (λ (o : ℕ). o + 1) same; known = s.known };
-          gets = k.gets;
+          gets = λ g. ((k.gets gets).0, ap (λ (o : ℕ). o + 1) same);
           hears = k.hears;
         }
         record {
@@ -57,12 +57,12 @@ module _ {M K : Type 0} (fits : K → ℕ → List M → M → Type 0) where
           put_key = o.put_key;
           get_key = o.get_key;
           sends = λ p. let t = o.sends p in record { all = t.all; below = let b = t.below in omega arith; first = λ z. absurd (other_putter fits items views r port v at puts j u ne e p (z ∙ sym is)); known = t.known };
-          gets = o.gets;
+          gets = λ g. absurd (other_getter fits items views r port v at gets j u ne e g);
           hears = o.hears;
         })
 
-    pub hires : v.puts ≡ true → v.number ≡ 0 → Forks (Ruled fits) port v (with_one_more v) (newest v)
-    hires puts is items views h at = inr (hired puts is items views (begun fits items views port v key at keyed h) at)
+    pub hires : v.puts ≡ true → v.gets ≡ true → v.number ≡ 0 → Forks (Ruled fits) port v (with_one_more v) (newest v)
+    hires puts gets is items views h at = inr (hired puts gets is items views (begun fits items views port v key at keyed h) at)
 
     pub parts : v.gets ≡ true → Forks (Ruled fits) port v (putting v) (getting v)
     parts gets items views h at = let r : Kept fits items views = begun fits items views port v key at keyed h in let k = r.each port v at in
@@ -100,7 +100,7 @@ module _ {M K : Type 0} (fits : K → ℕ → List M → M → Type 0) where
     put_key = λ _. refl;
     get_key = λ _. refl;
     sends = λ _. record { all = refl; below = omega arith; first = λ _. refl; known = omega arith };
-    gets = λ _. refl;
+    gets = λ _. (refl, refl);
     hears = ([], refl);
   }
   keyed_pair key (suc (suc i)) v e = absurd (some-ne-none v (sym e))

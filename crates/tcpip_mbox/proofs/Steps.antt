@@ -1,6 +1,6 @@
 -- The steps that put in, take out and learn keep the rule.
 use Rattle.std.proofs.Common.{◌≡◌, ◌≢◌, ℕ, ◌+◌, ◌≤◌, All, true, List, [], ◌∷◌, ◌++◌, length, set, sym, refl, ap, ◌∙◌, subst, inl, inr, arith, append_assoc, length-append, Some}
-use Rattle.std.proofs.lemmas.List.Elements.{All-nil, All-cons}
+use Rattle.std.proofs.lemmas.List.Elements.{All-nil, All-cons, All-head}
 use mathlib.Core.Option.{some}
 use mathlib.Core.Logic.{dite}
 use mathlib.Core.List.{IsPrefix}
@@ -65,19 +65,20 @@ module _ {M K : Type 0} (fits : K → ℕ → List M → M → Type 0) where
           put_key = k.put_key;
           get_key = k.get_key;
           sends = λ p. let s = sends_popped given items r.others x v (k.sends p) in record { all = s.all; below = s.below; first = s.first; known = s.known };
-          gets = λ g. ap (λ (l : List (Letter M)). l ++ x ∷ []) (k.gets g);
-          hears = prefix_same (v.given ++ x ∷ []) (given ++ x ∷ []) (ap (λ (l : List (Letter M)). l ++ x ∷ []) (k.gets gets));
+          gets = λ g. (ap (λ (l : List (Letter M)). l ++ x ∷ []) (k.gets g).0, (k.gets g).1);
+          hears = prefix_same (v.given ++ x ∷ []) (given ++ x ∷ []) (ap (λ (l : List (Letter M)). l ++ x ∷ []) (k.gets gets).0);
         }
         (λ j u ne e. knows_popped r.key given items r.others x u (other_getter fits (x ∷ items) views r port v at gets j u ne e) (r.each j u e))
 
-    pub pops : v.gets ≡ true → Pops (Ruled fits) port v (λ x w. (w ≡ got_one v x) × ((key : K) → v.key ≡ Some key → fits key x.from (sent_by x.from v.given) x.message))
+    pub pops : v.gets ≡ true → Pops (Ruled fits) port v (λ x w. (w ≡ got_one v x) × (x.from ≤ v.others) × ((key : K) → v.key ≡ Some key → fits key x.from (sent_by x.from v.given) x.message))
     pops gets x items views h at = let r : Kept fits (x ∷ items) views = begun fits (x ∷ items) views port v key at keyed h in (
       got_one v x,
       inr (popped gets x items views r at),
       (
         refl,
+        (let le = All-head (λ (y : Letter M). y.from ≤ r.others) x items (All-back (λ (y : Letter M). y.from ≤ r.others) r.given (x ∷ items) r.numbers) in let o = ((r.each port v at).gets gets).1 in omega arith),
         λ k is. subst (λ (key : K). fits key x.from (sent_by x.from v.given) x.message) (key_is fits (x ∷ items) views r port v at k (inr gets) is)
-            (subst (λ (l : List (Letter M)). fits r.key x.from (sent_by x.from l) x.message) (sym ((r.each port v at).gets gets)) r.fit.0),
+            (subst (λ (l : List (Letter M)). fits r.key x.from (sent_by x.from l) x.message) (sym ((r.each port v at).gets gets).0) r.fit.0),
       ),
     )
 

@@ -33,7 +33,7 @@ module _ {M K : Type 0} where
     pub put_key : v.puts ≡ true → v.key ≡ Some key
     pub get_key : v.gets ≡ true → v.key ≡ Some key
     pub sends : v.puts ≡ true → Sends given items others v
-    pub gets : v.gets ≡ true → v.given ≡ given
+    pub gets : v.gets ≡ true → (v.given ≡ given) × (v.others ≡ others)
     pub hears : IsPrefix v.given given
 
   -- There is one Get at most and one Put of each number up to `others`. Of each Put but the first at most one message lies in the queue

@@ -25,10 +25,11 @@ pub record Sender (M K : Type 0) : Type 0 where
   pub sent : List M
   pub known : ℕ
 
--- the Get: what it gave, oldest first
+-- the Get: the number of the Puts but the first, and what it gave, oldest first
 pub record Receiver (M K : Type 0) : Type 0 where
   pub table : TableId
   pub key : Option K
+  pub others : ℕ
   pub given : List (Letter M)
 
 -- a note of what the Get gave
@@ -59,7 +60,7 @@ module _ {M K : Type 0} where
   sender_at p number = let v : View M K = view p in record { table = p.table_id; key = v.key; number = number; others = v.others; sent = v.sent; known = v.known }
 
   abbrev pub receiver_at : Pass (Letter M) (View M K) → Receiver M K
-  receiver_at p = record { table = p.table_id; key = (view p).key; given = (view p).given }
+  receiver_at p = record { table = p.table_id; key = (view p).key; others = (view p).others; given = (view p).given }
 
   abbrev pub noted_at : Pass (Letter M) (View M K) → Noted M
   noted_at p = record { table = p.table_id; given = (view p).given }

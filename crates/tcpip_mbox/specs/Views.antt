@@ -10,8 +10,8 @@ module _ {M K : Type 0} where
   putter key number others sent known given = record { key = key; puts = true; number = number; others = others; sent = sent; known = known; gets = false; given = given }
 
   -- the Get
-  abbrev pub getter : Option K → List (Letter M) → View M K
-  getter key given = record { key = key; puts = false; number = 0; others = 0; sent = []; known = 0; gets = true; given = given }
+  abbrev pub getter : Option K → ℕ → List (Letter M) → View M K
+  getter key others given = record { key = key; puts = false; number = 0; others = others; sent = []; known = 0; gets = true; given = given }
 
   -- a note of what was given
   abbrev pub teller : List (Letter M) → View M K
@@ -45,7 +45,7 @@ module _ {M K : Type 0} where
 
   -- a pass that has this right alone
   abbrev pub getting : View M K → View M K
-  getting v = getter v.key v.given
+  getting v = getter v.key v.others v.given
 
   abbrev pub telling : View M K → View M K
   telling v = teller v.given

@@ -1,5 +1,5 @@
 //! The mailbox, and how it is made.
-ghost use Rattle.std.specs.Prelude.{◌≡◌, ◌≢◌, ℕ, ◌+◌, ◌<◌, ◌≤◌, [], ◌∷◌, ◌++◌, length, max, vec_capacity, Some, IfOk, IfErr, OnOk, IfSome, IfNone};
+ghost use Rattle.std.specs.Prelude.{◌≡◌, ◌≢◌, ℕ, ◌+◌, ◌-◌, ◌<◌, ◌≤◌, [], ◌∷◌, ◌++◌, length, max, vec_capacity, Some, IfOk, IfErr, OnOk, IfSome, IfNone};
 ghost use mathlib.Core.List.{IsPrefix};
 ghost use Rattle.crossbeam_queue.specs.Passes.{view, IsPassOf, ruled_capacity};
 ghost use Rattle.tcpip_mbox.specs.Letters.{sent_by};
@@ -90,7 +90,7 @@ impl<M: Message<K>, K> TcpipMbox<M, K> {
         requires { (0 < places) × (0 < lines) }
         ensures mbox { IfOk result (λ r. (r.0.places ≡ places) × (r.0.key ≡ key.now)) }
         ensures puts { IfOk result (λ r. ArePuts r.0 lines r.1.items) }
-        ensures get { IfOk result (λ r. r.2 ≡ record { table = r.0.table; key = Some key.now; given = [] }) }
+        ensures get { IfOk result (λ r. r.2 ≡ record { table = r.0.table; key = Some key.now; others = lines - 1; given = [] }) }
     {
         let mut puts = Vec::with_capacity(alloc, lines as usize)?;
         let (queue, first) = Queue::<M, K>::ruled(alloc, places as usize)?;
@@ -131,8 +131,8 @@ impl<M: Message<K>, K> TcpipMbox<M, K> {
     /// Takes the oldest message out. None only where the mailbox was empty at a moment of the call.
     pub fn get<R: Wait>(&self, rt: &R, get: &mut Get<M, K>) -> Option<M>
         requires own { IsOf self.now get.old.table get.old.key }
-        ensures same { (get.new.table ≡ get.old.table) × (get.new.key ≡ get.old.key) }
-        ensures some { IfSome result (λ m. (n : ℕ) × M.fits self.now.key n (sent_by n get.old.given) m × (get.new.given ≡ get.old.given ++ letter n m ∷ [])) }
+        ensures same { (get.new.table ≡ get.old.table) × (get.new.key ≡ get.old.key) × (get.new.others ≡ get.old.others) }
+        ensures some { IfSome result (λ m. (n : ℕ) × (n ≤ get.old.others) × M.fits self.now.key n (sent_by n get.old.given) m × (get.new.given ≡ get.old.given ++ letter n m ∷ [])) }
         ensures none { IfNone result (get.new ≡ get.old) }
     {
         let letter = self.queue.pop_as::<Got, R>(rt, &mut get.pass)?;

@@ -75,7 +75,7 @@ impl<M, K> Lesson<Letter<M>, View<M, K>> for Sent {
 pub(crate) struct Got;
 
 impl<M: Message<K>, K> Outcome<Letter<M>, View<M, K>> for Got {
-    ghost then = { λ v x w. (w ≡ got_one v x) × ((key : K) → v.key ≡ Some key → M.fits key x.from (sent_by x.from v.given) x.message) };
+    ghost then = { λ v x w. (w ≡ got_one v x) × (x.from ≤ v.others) × ((key : K) → v.key ≡ Some key → M.fits key x.from (sent_by x.from v.given) x.message) };
 }
 
 impl<M: Message<K>, K> Lesson<Letter<M>, View<M, K>> for Got {

@@ -6,7 +6,7 @@ use Rattle.tcpip_mbox.proofs.Puts.{AreNumbered-push, fresh_at}
 use Rattle.tcpip_mbox.proofs.mbox.hire.Goals as goal
 
 pub another-pass-requires-clause-rule : goal.another-pass-requires-clause-rule
-another-pass-requires-clause-rule g c = let is = c.loop-number.invariant.1 in hires g.M.Message.fits _ _ c.args.key.now (ap (λ v. v.key) is) (ap (λ v. v.puts) is) (ap (λ v. v.number) is)
+another-pass-requires-clause-rule g c = let is = c.loop-number.invariant.1 in hires g.M.Message.fits _ _ c.args.key.now (ap (λ v. v.key) is) (ap (λ v. v.puts) is) (ap (λ v. v.gets) is) (ap (λ v. v.number) is)
 
 pub loop-number-preserved : goal.loop-number-preserved
 loop-number-preserved g c = let inv = c.loop-number.invariant in let made = c.another-pass.ensures in let put = c.push_reserved.ensures in
