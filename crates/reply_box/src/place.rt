@@ -1,5 +1,5 @@
 //! The place, and the rights of its two sides.
-ghost use Rattle.std.specs.Prelude.{◌≡◌, ◌+◌, Some, IfOk};
+ghost use Rattle.std.specs.Prelude.{◌≡◌, ◌+◌, Some, IfOk, IfErr, OnOk, IfSome, IfNone};
 ghost use Rattle.reply_box.specs.Places.{IsOf};
 
 use crate::answer::{Answer, Carried};
@@ -61,11 +61,12 @@ pub struct Await<R: Answer<K>, K> {
 
 impl<R: Answer<K>, K> Model for Await<R, K> {
     ghost use Rattle.std.specs.Prelude.{◌≡◌, length};
+    ghost use Rattle.tcpip_mbox.specs.Letters.{sent_by};
     ghost use Rattle.reply_box.specs.Places.{Side};
 
     ghost Value = { Side K };
 
-    ghost view = { λ a. record { place = a.get.table; key = a.get.key; count = length a.get.given } };
+    ghost view = { λ a. record { place = a.get.table; key = a.get.key; count = length (sent_by 0 a.get.given) } };
 
     ghost invariant = { λ a. a.get.others ≡ 0 };
 }
@@ -93,18 +94,41 @@ impl<R: Answer<K>, K> ReplyBox<R, K> {
         Ok((ReplyBox { mbox }, Pledge { put }, Await { get }))
     }
 
+    // Puts the answer to the next question in, unless one lies there.
+    fn try_give<W: Wait>(&self, rt: &W, pledge: &mut Pledge<R, K>, reply: R) -> Result<(), R>
+        requires own { IsOf self.now pledge.old }
+        requires answers { R.answers self.now.key pledge.old.count reply }
+        ensures ok { OnOk result (pledge.new ≡ record pledge.old { count = pledge.old.count + 1 }) }
+        ensures err { IfErr result (λ back. (back ≡ reply) × (pledge.new ≡ pledge.old)) }
+    {
+        match self.mbox.put(rt, &mut pledge.put, Carried { reply }) {
+            Ok(()) => Ok(()),
+            Err(Carried { reply }) => Err(reply),
+        }
+    }
+
+    // Takes the answer to the next question out, if it lies there.
+    fn try_get<W: Wait>(&self, rt: &W, waits: &mut Await<R, K>) -> Option<R>
+        requires own { IsOf self.now waits.old }
+        ensures some { IfSome result (λ r. R.answers self.now.key waits.old.count r × (waits.new ≡ record waits.old { count = waits.old.count + 1 })) }
+        ensures none { IfNone result (waits.new ≡ waits.old) }
+    {
+        let carried = self.mbox.get(rt, &mut waits.get)?;
+        let Carried { reply } = carried;
+        Some(reply)
+    }
+
     /// Waits until the place is free, and puts in the answer to the next question.
-    pub fn give<W: Wait>(&self, rt: &W, pledge: &mut Pledge<R, K>, reply: R)
+    pub fn give<W: Wait>(&self, rt: &W, pledge: &mut Pledge<R, K>, mut reply: R)
         requires own { IsOf self.now pledge.old }
         requires answers { R.answers self.now.key pledge.old.count reply }
         ensures given { pledge.new ≡ record pledge.old { count = pledge.old.count + 1 } }
     {
-        let mut carried = Carried { reply };
         for _ in rt.forever() {
             for _ in 0..LOOKS {
-                match self.mbox.put(rt, &mut pledge.put, carried) {
+                match self.try_give(rt, pledge, reply) {
                     Ok(()) => return,
-                    Err(back) => carried = back,
+                    Err(back) => reply = back,
                 }
                 hint::spin_loop();
             }
@@ -121,8 +145,7 @@ impl<R: Answer<K>, K> ReplyBox<R, K> {
     {
         for _ in rt.forever() {
             for _ in 0..LOOKS {
-                if let Some(carried) = self.mbox.get(rt, &mut waits.get) {
-                    let Carried { reply } = carried;
+                if let Some(reply) = self.try_get(rt, waits) {
                     return reply;
                 }
                 hint::spin_loop();
