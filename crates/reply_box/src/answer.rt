@@ -1,5 +1,5 @@
 //! What a reply place carries.
-ghost use Rattle.std.specs.Prelude.{ℕ, length};
+ghost use Rattle.std.specs.Prelude.{ℕ, ◌+◌, length};
 
 use tcpip_mbox::Message;
 

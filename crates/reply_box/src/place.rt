@@ -38,7 +38,7 @@ pub struct Pledge<R: Answer<K>, K> {
 }
 
 impl<R: Answer<K>, K> Model for Pledge<R, K> {
-    ghost use Rattle.std.specs.Prelude.{◌≡◌, length};
+    ghost use Rattle.std.specs.Prelude.{◌≡◌, ◌+◌, length};
     ghost use Rattle.reply_box.specs.Places.{Side};
 
     ghost Value = { Side K };
@@ -60,7 +60,7 @@ pub struct Await<R: Answer<K>, K> {
 }
 
 impl<R: Answer<K>, K> Model for Await<R, K> {
-    ghost use Rattle.std.specs.Prelude.{◌≡◌, length};
+    ghost use Rattle.std.specs.Prelude.{◌≡◌, ◌+◌, length};
     ghost use Rattle.tcpip_mbox.specs.Letters.{sent_by};
     ghost use Rattle.reply_box.specs.Places.{Side};
 
