@@ -1,2 +1,3 @@
 pub mod Errands
 pub mod Replies
+pub mod Lines

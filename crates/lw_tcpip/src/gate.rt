@@ -1,6 +1,7 @@
 //! Where a test may hold a worker.
 
 /// A place in a worker's calls.
+#[derive(Clone, Copy)]
 pub enum Place {
     Before,
     Inside,
