@@ -6,9 +6,11 @@ mod errand;
 mod gate;
 mod line;
 mod reply;
+mod tcpip;
 mod turn;
 
 pub use errand::{Errand, Served};
 pub use gate::{Gate, OpenGate, Place};
 pub use line::{InputFault, Line};
 pub use std::alloc::AllocError as NoMemory;
+pub use tcpip::{Tcpip, Way};
