@@ -35,6 +35,16 @@ impl<O: Serial> Model for Tcpip<O> {
     ghost view = { λ t. record { mailbox = t.mbox.table; places = t.mbox.places; key = t.mbox.key } };
 }
 
+// One entry more, where the answer is Ok.
+fn entries_after<R, F>(entries: u64, answer: &Result<R, F>) -> u64
+    ensures { result ≡ counted answer.now entries }
+{
+    match answer {
+        Ok(_) => entries.saturating_add(1),
+        Err(_) => entries,
+    }
+}
+
 impl<O: Serial> Tcpip<O> {
     /// Asks the tcpip thread for one event by the caller that is lent, and waits for the answer. The caller that comes back is that one.
     /// Where the mailbox is full, it tries again.
@@ -64,9 +74,7 @@ impl<O: Serial> Tcpip<O> {
             who,
             ev,
         );
-        if result.is_ok() {
-            line.entries = line.entries.saturating_add(1);
-        }
+        line.entries = entries_after(line.entries, &result);
         (who, result)
     }
 
