@@ -16,10 +16,10 @@ module _ {C Ev : Type 0} where
   frames-append (x ∷ xs) ys = ap (λ (l : List Ev). frame_in x ++ l) (frames-append xs ys) ∙ sym (append_assoc (frame_in x) (frames xs) (frames ys))
 
   pub calls-push : (xs : List (Errand C Ev)) (m : Errand C Ev) → calls (xs ++ m ∷ []) ≡ calls xs + call_in m
-  calls-push xs m = omega (arith, sum_by-append {A = Errand C Ev} call_in xs (m ∷ []), sum_by-cons {A = Errand C Ev} call_in m [])
+  calls-push xs m = omega (arith, sum_by-append call_in xs (m ∷ []), sum_by-cons call_in m [])
 
   pub leaves-push : (xs : List (Errand C Ev)) (m : Errand C Ev) → leaves (xs ++ m ∷ []) ≡ leaves xs + leave_in m
-  leaves-push xs m = omega (arith, sum_by-append {A = Errand C Ev} leave_in xs (m ∷ []), sum_by-cons {A = Errand C Ev} leave_in m [])
+  leaves-push xs m = omega (arith, sum_by-append leave_in xs (m ∷ []), sum_by-cons leave_in m [])
 
 module _ {O E Ev : Type 0} (put put' : Sender (Errand (Known O E) Ev) (Served (Begun O))) (waits : Side (Sender (Errand (Known O E) Ev) (Served (Begun O)))) (place : Named (Sender (Errand (Known O E) Ev) (Served (Begun O)))) (left : Bool) (stays : left ≡ false) where
   pub framed : (ev : Ev) → put.number ≡ 0 → put' ≡ record put { sent = put.sent ++ Frame ev ∷ [] } → LineKept put waits place left → LineKept put' waits place left
