@@ -1,3 +1,4 @@
 pub mod Errands
 pub mod Replies
 pub mod Lines
+pub mod Servers

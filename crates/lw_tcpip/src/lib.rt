@@ -2,10 +2,12 @@
 #![tactic(auto)]
 
 mod ask;
+mod desk;
 mod errand;
 mod gate;
 mod line;
 mod reply;
+mod server;
 mod tcpip;
 mod turn;
 
@@ -13,4 +15,5 @@ pub use errand::{Errand, Served};
 pub use gate::{Gate, OpenGate, Place};
 pub use line::{InputFault, Line};
 pub use std::alloc::AllocError as NoMemory;
+pub use server::Server;
 pub use tcpip::{Tcpip, Way};

@@ -3,6 +3,8 @@
 
 mod answer;
 mod place;
+#[cfg(test)]
+mod tests;
 
 pub use answer::Answer;
 pub use place::{Await, Pledge, ReplyBox};
