@@ -1,13 +1,11 @@
-//! Two threads at one place, and a mailbox that is full.
+//! Both sides of a place in turn, and a mailbox that is full.
 ghost use Rattle.std.specs.Prelude.{◌≡◌, ℕ};
-ghost use Rattle.std.specs.Thread.{IsSync};
 ghost use Rattle.reply_box.specs.Places.{IsOf};
 
 use crate::{Answer, Await, Pledge, ReplyBox};
 use std::alloc::{AllocError, Global};
 use std::sync::Wait;
 use std::test::Fail;
-use std::thread::{Threads, join};
 use tcpip_mbox::{Message, TcpipMbox};
 
 const REPLIES: u64 = 1_000;
@@ -22,20 +20,19 @@ impl Answer<u64> for Number {
     ghost answers = { λ _ n r. r.value ≡ n };
 }
 
-fn give_all<R: Wait>(rt: &R, place: &ReplyBox<Number, u64>, mut pledge: Pledge<Number, u64>)
-    requires { IsOf place.now pledge × (pledge.count ≡ 0) }
-{
-    for value in 0..REPLIES {
-        place.give(rt, &mut pledge, Number { value });
-    }
-}
-
 // How many replies had the number of their question.
-fn get_all<R: Wait>(rt: &R, place: &ReplyBox<Number, u64>, mut waits: Await<Number, u64>) -> u64
-    requires { IsOf place.now waits }
+fn turns<R: Wait>(
+    rt: &R,
+    place: &ReplyBox<Number, u64>,
+    mut pledge: Pledge<Number, u64>,
+    mut waits: Await<Number, u64>,
+) -> u64
+    requires pledge { IsOf place.now pledge × (pledge.count ≡ 0) }
+    requires waits { IsOf place.now waits }
 {
     let mut right = 0;
     for n in 0..REPLIES {
+        place.give(rt, &mut pledge, Number { value: n });
         let reply = place.get(rt, &mut waits);
         if reply.value == n {
             right += 1;
@@ -44,18 +41,9 @@ fn get_all<R: Wait>(rt: &R, place: &ReplyBox<Number, u64>, mut waits: Await<Numb
     right
 }
 
-fn through_a_place<R: Threads + Wait + Sync>(rt: &R, alloc: Global) -> Result<u64, AllocError> {
+fn through_a_place<R: Wait>(rt: &R, alloc: Global) -> Result<u64, AllocError> {
     let (place, pledge, waits) = ReplyBox::new(alloc, &0)?;
-    let ((), right) = join(
-        rt,
-        || -> ()
-            requires { IsSync R.row × IsOf place pledge × (pledge.count ≡ 0) }
-        { give_all(rt, &place, pledge) },
-        || -> u64
-            requires { IsSync R.row × IsOf place waits }
-        { get_all(rt, &place, waits) },
-    );
-    Ok(right)
+    Ok(turns(rt, &place, pledge, waits))
 }
 
 #[test]
