@@ -1,5 +1,7 @@
 //! The reply place of a line, on the side that serves.
 ghost use Rattle.std.specs.Prelude.{◌≡◌, ◌+◌, Some};
+ghost use Rattle.std.specs.Arc.{arc_value};
+ghost use Rattle.reply_box.specs.Places.{IsOf};
 ghost use Rattle.lw_tcpip.specs.Replies.{Answers};
 
 use crate::errand::Entry;
@@ -35,7 +37,7 @@ impl<O: Serial> Desk<O> {
         pledge: Pledge<Answered<O>, Entry<O>>,
         place: Arc<ReplyBox<Answered<O>, Entry<O>>>,
     ) -> Desk<O>
-        requires { Rattle.reply_box.specs.Places.IsOf (Rattle.std.specs.Arc.arc_value place) pledge }
+        requires { IsOf (arc_value place) pledge }
         ensures { result ≡ pledge }
     {
         Desk { pledge, place }

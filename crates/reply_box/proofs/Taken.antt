@@ -1,5 +1,5 @@
 -- What the side that takes replies out knows as it takes one more.
-use Rattle.std.proofs.Common.{◌≡◌, ℕ, ◌+◌, List, [], ◌∷◌, ◌++◌, length, length-append, ap, sym, subst, ◌∙◌, arith}
+use Rattle.std.proofs.Common.{◌≡◌, ℕ, ◌+◌, List, [], ◌∷◌, ◌++◌, length, length-append, ap, ◌∙◌, arith}
 use Rattle.tcpip_mbox.specs.declared.view.Letter.{Letter}
 use Rattle.tcpip_mbox.specs.Letters.{sent_by}
 use Rattle.tcpip_mbox.specs.Tokens.{letter}

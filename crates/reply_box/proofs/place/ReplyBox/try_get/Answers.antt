@@ -1,4 +1,4 @@
-use Rattle.std.proofs.Common.{◌≡◌, ◌+◌, ℕ, length, ap, sym, subst, ◌∙◌, arith}
+use Rattle.std.proofs.Common.{◌≡◌, ◌+◌, ℕ, length, ap, subst, ◌∙◌, arith}
 use Rattle.tcpip_mbox.specs.Letters.{sent_by}
 use Rattle.reply_box.proofs.Taken.{one_more}
 use Rattle.reply_box.proofs.place.ReplyBox.try_get.Goals as goal
