@@ -1,4 +1,0 @@
-pub mod Errands
-pub mod Replies
-pub mod Lines
-pub mod Servers
