@@ -1,0 +1,14 @@
+-- Letters: messages, each with the number of the Put that put it in.
+use Rattle.std.specs.Prelude.{ℕ, ◌==◌, cond, List, [], ◌∷◌, ◌++◌}
+use Rattle.tcpip_mbox.specs.declared.view.Letter.{Letter}
+
+module _ {M : Type 0} where
+  -- the messages of the Put n, in their order
+  abbrev pub sent_by : ℕ → List (Letter M) → List M
+  sent_by n [] = []
+  sent_by n (x ∷ xs) = cond (x.from == n) (x.message ∷ sent_by n xs) (sent_by n xs)
+
+  -- each letter's message fits its Put and what this Put put in before, where some letters came first
+  abbrev pub Fitting : (ℕ → List M → M → Type 0) → List (Letter M) → List (Letter M) → Type 0
+  Fitting fits before [] = Unit {0}
+  Fitting fits before (x ∷ xs) = fits x.from (sent_by x.from before) x.message × Fitting fits (before ++ x ∷ []) xs
