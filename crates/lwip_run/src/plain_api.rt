@@ -120,6 +120,8 @@ impl<P: Payload<Home: Drop>> PlainApi<P> {
         ensures { IfOk result (λ outcome. FedAll actor self.old self.new seen.old.items seen.new.items outcome) }
     {
         let count = u32::try_from(self.left()).map_err(|_| AllocError)?;
+        self.entries.reserve(count as usize)?;
+        seen.reserve(count as usize)?;
         while let Some(octets) = self.next_frame() {
             let number = self.feed(alloc, actor, octets.as_slice())?;
             seen.push(Evidence::At(number))?;
