@@ -28,7 +28,6 @@ mod unreachable_cases;
 mod waiting_cases;
 #[cfg(test)]
 mod whole_cases;
-
 mod worked;
 
 pub use worked::{an_arp_request_is_answered, no_frames_are_fed, the_text_is_the_script};
