@@ -1,5 +1,5 @@
 -- The text of core lines is of one list of them.
-use Rattle.std.proofs.Common.{◌≡◌, ◌≢◌, ℕ, ◌^◌, ◌<◌, ◌⊎◌, inl, inr, Bool, true, false, List, [], ◌∷◌, ◌++◌, All, refl, sym, ap, ◌∙◌, subst, arith, codes, decimal, append_assoc}
+use Rattle.std.proofs.Common.{◌≡◌, ◌≢◌, ℕ, ◌⊎◌, inl, inr, Bool, true, false, List, [], ◌∷◌, ◌++◌, refl, sym, ap, ◌∙◌, arith, codes, decimal, append_assoc}
 use Rattle.std.proofs.lemmas.List.{append_cancel_left}
 use Rattle.std.specs.List.{flat_map}
 use Rattle.hex.specs.Hex.{IsBytes, encode_lower}
@@ -11,7 +11,6 @@ use Rattle.lw_events.specs.declared.entry.ItemText.{ItemText}
 use Rattle.lw_events.specs.declared.entry.ItemText.TheVariants.{Segment, Datagram, Accepted}
 use Rattle.lw_events.specs.declared.entry.Post.{Post}
 use Rattle.lw_events.specs.declared.entry.Post.TheVariants.{Item, Full}
-use Rattle.lw_events.specs.declared.entry.Entry.{Entry}
 use Rattle.lw_transcript.specs.declared.lines.CoreLine.{CoreLine}
 use Rattle.lw_transcript.specs.Transcript.{core_lines, core_text, event_text, item_text, out_text, post_text, reply_text, short_text}
 use Rattle.lw_transcript.specs.Laws.{IsToldCore, IsToldEvent, IsToldItem, IsToldPost}

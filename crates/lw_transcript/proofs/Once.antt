@@ -1,5 +1,5 @@
 -- A text is of one transcript.
-use Rattle.std.proofs.Common.{◌≡◌, ◌≢◌, ◌⊎◌, inl, inr, ℕ, List, [], ◌∷◌, ◌++◌, refl, sym, ◌∙◌, arith, codes, decimal, append_assoc}
+use Rattle.std.proofs.Common.{◌≡◌, ◌⊎◌, inl, inr, ℕ, List, [], ◌∷◌, ◌++◌, refl, sym, ◌∙◌, arith, codes, decimal, append_assoc}
 use Rattle.std.proofs.lemmas.List.{append_cancel_left}
 use Rattle.std.specs.List.{flat_map}
 use Rattle.lw_transcript.specs.declared.lines.Version.{Version}
@@ -8,7 +8,6 @@ use Rattle.lw_transcript.specs.declared.lines.Kind.{Kind}
 use Rattle.lw_transcript.specs.declared.lines.Kind.TheVariants.{Serial}
 use Rattle.lw_transcript.specs.declared.lines.ActorPart.{ActorPart}
 use Rattle.lw_transcript.specs.declared.lines.EndLine.{EndLine}
-use Rattle.lw_transcript.specs.declared.lines.Body.{Body}
 use Rattle.lw_transcript.specs.declared.lines.Transcript.{Transcript}
 use Rattle.lw_transcript.specs.Transcript.{IsTranscript, actor_lines, body_text, core_lines, end_text, head_text, numbered, transcript_spelling}
 use Rattle.lw_transcript.specs.Laws.{IsTold, IsToldCore, IsToldEnd}

@@ -1,5 +1,5 @@
--- Of which transcripts the text tells all, and the law that it is of one.
-use Rattle.std.specs.Prelude.{ℕ, ◌^◌, ◌<◌, ◌≡◌, List, All}
+-- Of which transcripts the text tells all.
+use Rattle.std.specs.Prelude.{ℕ, ◌^◌, ◌<◌, List, All}
 use Rattle.hex.specs.Hex.{IsBytes}
 use Rattle.lw_events.specs.declared.event.Event.{Event}
 use Rattle.lw_events.specs.declared.event.Event.TheVariants.{Frame, Stop}
