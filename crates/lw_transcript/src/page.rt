@@ -72,17 +72,25 @@ impl Page {
         self.failed = written.is_err();
     }
 
+    /// How many octets there is room for.
+    fn left(&self) -> usize
+        ensures { length self.now.pending + result ≤ 65536 }
+    {
+        ROOM - self.filled
+    }
+
     /// Makes room for two octets, and answers how many there is room for.
     fn room<K: Sink>(&mut self, sink: &mut K) -> usize
         ensures prints { Prints (K.seen sink.old) (K.seen sink.new) self.old self.new [] }
         ensures some { 2 ≤ result }
         ensures fits { length self.new.pending + result ≤ 65536 }
     {
-        if ROOM - self.filled < 2 {
+        let left = self.left();
+        if left < 2 {
             self.flush(sink);
             return ROOM;
         }
-        ROOM - self.filled
+        left
     }
 
     fn add(&mut self, octets: &[u8])
@@ -107,6 +115,17 @@ impl Page {
     pub fn put<K: Sink>(&mut self, sink: &mut K, octets: &[u8])
         ensures { Prints (K.seen sink.old) (K.seen sink.new) self.old self.new octets.now }
     {
+        if octets.len() <= self.left() {
+            self.add(octets);
+        } else {
+            self.put_pieces(sink, octets);
+        }
+    }
+
+    /// Puts these octets in pieces for which there is room.
+    fn put_pieces<K: Sink>(&mut self, sink: &mut K, octets: &[u8])
+        ensures { Prints (K.seen sink.old) (K.seen sink.new) self.old self.new octets.now }
+    {
         let mut rest = octets;
         while !rest.is_empty() {
             let count = self.room(sink).min(rest.len());
@@ -118,6 +137,17 @@ impl Page {
 
     /// Puts octets in hexadecimal, in lower case.
     pub fn hex<K: Sink>(&mut self, sink: &mut K, octets: &[u8])
+        ensures { Prints (K.seen sink.old) (K.seen sink.new) self.old self.new (encode_lower octets.now) }
+    {
+        if octets.len() <= self.left() / 2 {
+            self.add_hex(octets);
+        } else {
+            self.hex_pieces(sink, octets);
+        }
+    }
+
+    /// Puts octets in hexadecimal, in pieces for which there is room.
+    fn hex_pieces<K: Sink>(&mut self, sink: &mut K, octets: &[u8])
         ensures { Prints (K.seen sink.old) (K.seen sink.new) self.old self.new (encode_lower octets.now) }
     {
         let mut rest = octets;

@@ -1,7 +1,7 @@
 use Rattle.std.proofs.Common.{List, ℕ, length}
 use Rattle.hex.specs.Hex.{encode_lower}
 use Rattle.lw_transcript.proofs.Printing.{PutSoFar}
-use Rattle.lw_transcript.proofs.page.Page.hex.Given as goal
+use Rattle.lw_transcript.proofs.page.Page.hex_pieces.Given as goal
 
 abbrev pub invariant-loop-rest : goal.invariant-loop-rest
 invariant-loop-rest g l = PutSoFar encode_lower (g.K.Sink.seen l.fn.sink) (g.K.Sink.seen l.sink) l.fn.self l.self l.octets l.rest
