@@ -14,7 +14,7 @@ pub enum InputFault {
 }
 
 // Octets of a file that are read by one call.
-const PIECE: usize = 4096;
+const PIECE: usize = 16_384;
 
 /// All octets of the file of this name, of which there may be `limit`. One octet more is asked for,
 /// by which a longer file is known; no other octet behind the limit is read.
