@@ -12,17 +12,22 @@ use Rattle.lw_udp.specs.declared.delivery.Claim.{Claim}
 use Rattle.lw_udp.specs.declared.delivery.Class.{Class}
 use Rattle.lw_udp.specs.Ends.{Socket, Table, is_of, end_of, local_of, removed}
 use Rattle.lw_udp.specs.Delivery.{class_of, claim_of, best, GoesTo}
-use Rattle.lw_udp.specs.Ports.{has_port, is_used, free_port, clash, clashes, wanted, granted, bind_port}
+use Rattle.lw_udp.specs.Ports.{has_port, is_used, first_free, free_port, clash, clashes, wanted, unless_taken, granted, bind_port}
 use Rattle.lw_udp.specs.Laws.{NotGiven, LivePortLaw, RemovedLaw}
 use Rattle.lw_udp.proofs.ListLaws.{one_passes, each_fails, found_passes, none_left}
 use Rattle.lw_udp.proofs.ClaimLaws.{delivery}
 
 -- Ports of live ends
 
+-- the first port that isn't in use isn't in use
+first_is_free : (ends : List UdpEnd) (given : Port) (n : ℕ) (port : Port) → first_free ends given n ≡ Some port → not (is_used ends port) ≡ true
+unfolding first_free
+first_is_free ends given n port next = found_passes (λ (port : Port). not (is_used ends port)) _ port next
+
 -- the port that comes next isn't that of a live end
 ephemeral : (t : Table) (e : UdpEnd) (local : Socket) → Contains t.ends e → e.local ≡ Some local → free_port t ≢ Some local.1
 ephemeral t e local there bound next =
-    let free : not (is_used t.ends local.1) ≡ true = found_passes (λ (port : Port). not (is_used t.ends port)) _ local.1 next in
+    let free = first_is_free t.ends t.given 16384 local.1 next in
     let its : has_port local.1 e ≡ true = rw bound (eq-eqb local.1.0 local.1.0 refl) in
     let used : is_used t.ends local.1 ≡ true = one_passes (has_port local.1) t.ends e there its in
     false≢true (ap not (sym used) ∙ free)
@@ -31,7 +36,7 @@ ephemeral t e local there bound next =
 granted_is_apart : (ends : List UdpEnd) (ip : Ip) (asked : Option Port) (port : Port) → granted ends ip asked ≡ Ok port → list_any (clashes (ip, port)) ends ≡ false
 granted_is_apart ends ip None port ok = absurd (cc)
 granted_is_apart ends ip (Some p) port ok =
-    elim (list_any (clashes (ip, p)) ends) as (λ b. list_any (clashes (ip, p)) ends ≡ b → cond b (Err Use) (Ok p) ≡ Ok port → list_any (clashes (ip, port)) ends ≡ false) [
+    elim (list_any (clashes (ip, p)) ends) as (λ b. list_any (clashes (ip, p)) ends ≡ b → unless_taken b p ≡ Ok port → list_any (clashes (ip, port)) ends ≡ false) [
       | true ↦ λ _ h. absurd (cc)
       | false ↦ λ apart h. let it : p ≡ port = cc in ap (λ (q : Port). list_any (clashes (ip, q)) ends) (sym it) ∙ apart
     ] refl ok

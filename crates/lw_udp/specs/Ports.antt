@@ -1,4 +1,4 @@
-use Rattle.std.specs.Prelude.{◌≡◌, ◌<◌, ℕ, ◌+◌, ◌%◌, ◌==◌, ◌&&◌, ◌||◌, not, Bool, IsTrue, List, Option, Some, None, is_some, Result, Ok, Err, map, find, if◌then◌else◌}
+use Rattle.std.specs.Prelude.{ℕ, ◌+◌, ◌%◌, ◌==◌, ◌&&◌, ◌||◌, not, Bool, false, List, Option, Some, None, is_some, Result, Ok, Err, map, find, if◌then◌else◌}
 use Rattle.std.specs.List.{list_any, range_with_len}
 use Rattle.std.specs.Option.{option_map_or}
 use Rattle.lw_base.specs.declared.addresses.Ip.{Ip}
@@ -28,9 +28,13 @@ has_port port e = option_map_or (λ local. local.1.0 == port.0) e.local false
 abbrev pub is_used : List UdpEnd → Port → Bool
 is_used ends port = list_any (has_port port) ends
 
--- the ephemeral port that comes next: the first after the last one given that isn't in use
+-- the first of the n ports after one that isn't in use
+unfoldable pub first_free : List UdpEnd → Port → ℕ → Option Port
+first_free ends given n = find (λ port. not (is_used ends port)) (map (port_after given) (range_with_len 0 n))
+
+-- the ephemeral port that comes next: the first of all, after the last one given, that isn't in use
 abbrev pub free_port : Table → Option Port
-free_port t = find (λ port. not (is_used t.ends port)) (map (port_after t.given) (range_with_len 0 16384))
+free_port t = first_free t.ends t.given 16384
 
 -- What Bind and Connect answer, and the table after them
 
@@ -47,9 +51,12 @@ abbrev pub wanted : Table → Port → Option Port
 wanted t port = if port.0 == 0 then free_port t else Some port
 
 -- the port that may be given at an address: BUF where there is none, USE where its socket clashes with one in use
+abbrev pub unless_taken : Bool → Port → Result Port Code
+unless_taken taken port = if taken then Err Use else Ok port
+
 abbrev pub granted : List UdpEnd → Ip → Option Port → Result Port Code
 granted ends ip None = Err Buf
-granted ends ip (Some port) = if list_any (clashes (ip, port)) ends then Err Use else Ok port
+granted ends ip (Some port) = unless_taken (list_any (clashes (ip, port)) ends) port
 
 -- the port that Bind gives, or its refusal: VAL where the connection is bound or the address is neither 0.0.0.0 nor
 -- the own, then BUF, then USE

@@ -1,4 +1,4 @@
-ghost use Rattle.std.specs.Prelude.{◌≡◌, if◌then◌else◌, Some, option_copied};
+ghost use Rattle.std.specs.Prelude.{◌≡◌, if◌then◌else◌, Some, not, filter, option_copied};
 ghost use Rattle.lw_udp.specs.Ends.{is_of, end_of, changed, unbound, with_local, with_remote, same_socket};
 
 use lw_base::{Ip, Port};
@@ -29,6 +29,13 @@ pub(crate) fn end_of(ends: &[UdpEnd], conn: u32) -> Option<&UdpEnd>
     ensures { option_copied result ≡ end_of ends.now conn }
 {
     ends.iter().find(|e| e.conn == conn)
+}
+
+/// Takes the end of a connection off.
+pub(crate) fn take_off(ends: &mut Vec<UdpEnd>, conn: u32)
+    ensures { ends.new.items ≡ filter (λ e. not (is_of conn e)) ends.old.items }
+{
+    ends.retain(|e| e.conn != conn);
 }
 
 /// Binds the end of a connection.

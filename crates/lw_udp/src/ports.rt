@@ -1,29 +1,28 @@
-ghost use Rattle.std.specs.Prelude.{◌≡◌, ◌<◌, not, if◌then◌else◌, map, find};
-ghost use Rattle.std.specs.List.{list_any, range_with_len};
-ghost use Rattle.lw_udp.specs.Ports.{port_after, has_port, is_used, clash, clashes, granted};
-ghost use Rattle.lw_base.specs.declared.errors.Err.{Err as Code};
+ghost use Rattle.std.specs.Prelude.{◌≡◌};
+ghost use Rattle.std.specs.List.{list_any};
+ghost use Rattle.lw_udp.specs.Ports.{port_after, has_port, is_used, first_free, clash, clashes, unless_taken, granted};
 
 use crate::UdpEnd;
 use lw_base::{Err, Ip, Port};
 
 /// How many ephemeral ports there are.
-const EPHEMERAL: u32 = 16_384;
+pub(crate) const EPHEMERAL: u32 = 16_384;
 
-/// The first ephemeral port after the one that was given last that isn't in use.
-pub(crate) fn free_port(ends: &[UdpEnd], given: Port) -> Option<Port>
-    ensures { result ≡ find (λ port. not (is_used ends.now port)) (map (port_after given) (range_with_len 0 16384)) }
+/// The first of so many ephemeral ports after one that isn't in use.
+#[tactic(auto, unfolding(crate::specs::Ports::first_free))]
+pub(crate) fn first_free(ends: &[UdpEnd], given: Port, count: u32) -> Option<Port>
+    ensures { result ≡ first_free ends.now given count }
 {
-    (0..EPHEMERAL)
+    (0..count)
         .map(|k| port_after(given, k))
         .find(|port| !is_used(ends, *port))
 }
 
 /// The k-th ephemeral port after one, from 0.
 fn port_after(given: Port, k: u32) -> Port
-    requires { k < 16384 }
     ensures { result ≡ port_after given k }
 {
-    let place = (u32::from(given.0) + 1 + k) % EPHEMERAL;
+    let place = (u64::from(given.0) + 1 + u64::from(k)) % 16_384;
     Port(49_152 + place as u16)
 }
 
@@ -50,13 +49,13 @@ pub(crate) fn granted(ends: &[UdpEnd], ip: Ip, port: Option<Port>) -> Result<Por
 {
     match port {
         None => Err(Err::Buf),
-        Some(port) => unless_used(port, is_taken(ends, (ip, port))),
+        Some(port) => unless_taken(is_taken(ends, (ip, port)), port),
     }
 }
 
 /// The port, where it isn't taken.
-fn unless_used(port: Port, taken: bool) -> Result<Port, Err>
-    ensures { result ≡ (if taken then Err Code.Use else Ok port) }
+fn unless_taken(taken: bool, port: Port) -> Result<Port, Err>
+    ensures { result ≡ unless_taken taken port }
 {
     if taken { Err(Err::Use) } else { Ok(port) }
 }

@@ -5,8 +5,8 @@ ghost use Rattle.lw_udp.specs.Ports.{free_port, wanted, granted, bind_port, with
 
 use crate::UdpEnd;
 use crate::delivery::best;
-use crate::ends::{end_of, set_local, set_remote, unbound};
-use crate::ports::{free_port, granted};
+use crate::ends::{end_of, set_local, set_remote, take_off, unbound};
+use crate::ports::{EPHEMERAL, first_free, granted};
 use lw_base::{Err, Ip, Port};
 pub use std::alloc::AllocError as NoMemory;
 use std::alloc::Global;
@@ -53,7 +53,7 @@ impl UdpTable {
     pub fn remove(&mut self, conn: u32)
         ensures { self.new ≡ removed self.old conn }
     {
-        self.ends.retain(|e| e.conn != conn);
+        take_off(&mut self.ends, conn);
     }
 
     /// What a connection is bound to.
@@ -81,7 +81,7 @@ impl UdpTable {
     pub fn free_port(&self) -> Option<Port>
         ensures { result ≡ free_port self.now }
     {
-        free_port(&self.ends, self.given)
+        first_free(&self.ends, self.given, EPHEMERAL)
     }
 
     /// Binds a connection to an address, 0.0.0.0 for any, and a port, 0 for the ephemeral one that comes
