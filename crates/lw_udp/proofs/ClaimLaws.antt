@@ -8,7 +8,7 @@ use Rattle.std.proofs.lemmas.List.Sums.{fold-append}
 use Rattle.lw_udp.specs.declared.ends.UdpEnd.{UdpEnd}
 use Rattle.lw_udp.specs.declared.delivery.Claim.{Claim}
 use Rattle.lw_udp.specs.Ends.{Socket}
-use Rattle.lw_udp.specs.Delivery.{rank, claim_of, goes_before, first_of, first_with, first_claim, best, GoesTo, GoesNowhere}
+use Rattle.lw_udp.specs.Delivery.{rank, claim_of, goes_before, first_of, first_with, first_claim, GoesTo, GoesNowhere}
 use Rattle.lw_udp.specs.Laws.{DeliveryLaw}
 use Rattle.lw_udp.proofs.ListLaws.{All-head, All-tail, Contains-cons, all_given, given_at, nothing_given}
 
@@ -26,7 +26,7 @@ first_more src dst ends i d first claim new within so_far its step =
     let h : UdpEnd → Option Claim = claim_of src dst in
     let e = get_or ends i d in
     let more : first_claim src dst (take i ends ++ e ∷ []) ≡ first_with (first_claim src dst (take i ends)) (h e) =
-        ap (reduce first_of) (filter_map-append h (take i ends) (e ∷ [])) ∙ joined (filter_map h (take i ends)) (h e) in
+    ap (reduce first_of) (filter_map-append h (take i ends) (e ∷ [])) ∙ joined (filter_map h (take i ends)) (h e) in
     step ∙ ap (λ (o : Option Claim). first_with o claim) so_far ∙ ap (first_with (first_claim src dst (take i ends))) its
     ∙ sym more ∙ sym (ap (first_claim src dst) (take_more ends i d within))
 
@@ -61,16 +61,18 @@ first_is_first a (b ∷ cs) =
           let w = fold first_of b cs in
           let it = first_is_first b cs in
           let head = All-head (NotBefore w) b cs it.0 in
-          let back = not_back (rank b.class) b.conn (rank a.class) a.conn e in
-          (All-cons (NotBefore w) a (b ∷ cs) (chained (rank a.class) a.conn (rank b.class) b.conn (rank w.class) w.conn back head) it.0,
-          Contains-cons a (b ∷ cs) w it.1)
+          let back = not_back (rank b.class) b.conn (rank a.class) a.conn e in (
+            All-cons (NotBefore w) a (b ∷ cs) (chained (rank a.class) a.conn (rank b.class) b.conn (rank w.class) w.conn back head) it.0,
+            Contains-cons a (b ∷ cs) w it.1,
+          )
       | false ↦ λ e.
           let w = fold first_of a cs in
           let it = first_is_first a cs in
           let head = All-head (NotBefore w) a cs it.0 in
-          let rest = All-tail (NotBefore w) a cs it.0 in
-          (All-cons (NotBefore w) a (b ∷ cs) head (All-cons (NotBefore w) b cs (chained (rank b.class) b.conn (rank a.class) a.conn (rank w.class) w.conn e head) rest),
-          moved a b cs w it.1.0 it.1.1 it.1.2)
+          let rest = All-tail (NotBefore w) a cs it.0 in (
+            All-cons (NotBefore w) a (b ∷ cs) head (All-cons (NotBefore w) b cs (chained (rank b.class) b.conn (rank a.class) a.conn (rank w.class) w.conn e head) rest),
+            moved a b cs w it.1.0 it.1.1 it.1.2,
+          )
     ] refl
 
 -- Where a datagram goes

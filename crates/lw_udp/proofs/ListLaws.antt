@@ -1,4 +1,4 @@
-use Rattle.std.proofs.Common.{◌≡◌, ℕ, zero, suc, ◌+◌, ◌<◌, ◌≤◌, Bool, true, false, not, ◌||◌, cond, List, [], ◌∷◌, ◌++◌, length, get_or, set, take, drop, map, filter, find, Option, Some, None, refl, ap, sym, subst, ◌∙◌, append_assoc, arith, All, Contains}
+use Rattle.std.proofs.Common.{◌≡◌, ℕ, zero, suc, ◌+◌, ◌<◌, ◌≤◌, Bool, true, false, not, cond, List, [], ◌∷◌, ◌++◌, length, get_or, set, take, drop, map, filter, find, Option, Some, None, refl, ap, sym, subst, ◌∙◌, append_assoc, arith, All, Contains}
 use Rattle.std.specs.List.{list_any, filter_map, cons_option}
 use Rattle.std.proofs.lemmas.Bool.{false≢true}
 use Rattle.std.proofs.lemmas.List.Elements.{All-nil, All-cons}
@@ -17,7 +17,6 @@ mapped_more {X} f xs ys i y d within made so_far =
     let same : y ≡ f z = made ∙ ap (λ (l : List X). f (get_or l i d)) now ∙ ap f (get_or_at p z rest d i long) in
     ap (λ (l : List X). set l i y) now ∙ set_at p z rest y i long ∙ ap (λ (e : X). p ++ e ∷ rest) same
     ∙ sym (ap (λ (l : List X). l ++ rest) (map_more f xs i d within) ∙ append_assoc p (f z ∷ []) rest)
-
 
 -- what holds of each element holds of the first, and of each of the others
 pub All-head : {X : Type 0} (P : X → Type 0) (x : X) (xs : List X) → All P (x ∷ xs) → P x

@@ -1,4 +1,4 @@
-use Rattle.std.proofs.Common.{◌≡◌, ◌≢◌, ℕ, Bool, true, false, not, ◌||◌, ◌&&◌, cond, eqb, eq-eqb, List, [], ◌∷◌, length, filter, Option, Some, None, is_some, Result, Ok, Err, refl, ap, sym, ◌∙◌, arith, Contains}
+use Rattle.std.proofs.Common.{◌≡◌, ◌≢◌, ℕ, Bool, true, false, not, cond, eq-eqb, List, filter, Option, Some, None, is_some, Result, Ok, Err, refl, ap, sym, ◌∙◌, Contains}
 use Rattle.std.specs.List.{list_any}
 use Rattle.std.specs.Option.{option_map}
 use Rattle.std.proofs.lemmas.Bool.{false≢true}
@@ -6,14 +6,14 @@ use Rattle.std.proofs.lemmas.List.Elements.{filter_passes}
 use Rattle.lw_base.specs.declared.addresses.Ip.{Ip}
 use Rattle.lw_base.specs.declared.addresses.Port.{Port}
 use Rattle.lw_base.specs.declared.errors.Err.{Err as Code}
-use Rattle.lw_base.specs.declared.errors.Err.TheVariants.{Val, Buf, Use}
+use Rattle.lw_base.specs.declared.errors.Err.TheVariants.{Val}
 use Rattle.lw_udp.specs.declared.ends.UdpEnd.{UdpEnd}
 use Rattle.lw_udp.specs.declared.delivery.Claim.{Claim}
 use Rattle.lw_udp.specs.declared.delivery.Class.{Class}
-use Rattle.lw_udp.specs.Ends.{Socket, Table, is_of, end_of, local_of, removed}
-use Rattle.lw_udp.specs.Delivery.{class_of, claim_of, best, GoesTo}
+use Rattle.lw_udp.specs.Ends.{Socket, Table, is_of, local_of, removed}
+use Rattle.lw_udp.specs.Delivery.{class_of, claim_of, best}
 use Rattle.lw_udp.specs.Ports.{has_port, is_used, first_free, free_port, clash, clashes, wanted, unless_taken, granted, bind_port}
-use Rattle.lw_udp.specs.Laws.{NotGiven, LivePortLaw, RemovedLaw}
+use Rattle.lw_udp.specs.Laws.{LivePortLaw, RemovedLaw}
 use Rattle.lw_udp.proofs.ListLaws.{one_passes, each_fails, found_passes, none_left}
 use Rattle.lw_udp.proofs.ClaimLaws.{delivery}
 

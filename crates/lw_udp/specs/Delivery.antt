@@ -1,8 +1,6 @@
 use Rattle.std.specs.Prelude.{◌≡◌, ℕ, ◌==◌, ◌&&◌, ◌||◌, nat_lt, Bool, false, List, Option, Some, None, if◌then◌else◌, option_and_then, All, Contains}
 use Rattle.std.specs.List.{filter_map, reduce}
 use Rattle.std.specs.Option.{option_map}
-use Rattle.lw_base.specs.declared.addresses.Ip.{Ip}
-use Rattle.lw_base.specs.declared.addresses.Port.{Port}
 use Rattle.lw_udp.specs.declared.ends.UdpEnd.{UdpEnd}
 use Rattle.lw_udp.specs.declared.delivery.Claim.{Claim}
 use Rattle.lw_udp.specs.declared.delivery.Class.{Class}

@@ -1,4 +1,4 @@
-use Rattle.std.specs.Prelude.{ℕ, ◌==◌, ◌&&◌, not, Bool, List, [], ◌∷◌, ◌++◌, Option, Some, None, is_some, map, filter, find, if◌then◌else◌, option_and_then}
+use Rattle.std.specs.Prelude.{ℕ, ◌==◌, ◌&&◌, not, Bool, List, [], ◌∷◌, ◌++◌, Option, Some, None, map, filter, find, if◌then◌else◌, option_and_then}
 use Rattle.lw_base.specs.declared.addresses.Ip.{Ip}
 use Rattle.lw_base.specs.declared.addresses.Port.{Port}
 use Rattle.lw_udp.specs.declared.ends.UdpEnd.{UdpEnd}
