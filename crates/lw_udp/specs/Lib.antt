@@ -1,0 +1,4 @@
+pub mod Ends
+pub mod Delivery
+pub mod Ports
+pub mod Laws
