@@ -1,3 +1,4 @@
 pub mod ListLaws
 pub mod ClaimLaws
 pub mod LiveLaws
+pub mod TurnLaws
