@@ -10,5 +10,7 @@ mod table;
 
 pub use delivery::{Claim, Class};
 pub use ends::UdpEnd;
-pub use laws::{ephemeral_ports_rise, goes_to_the_first, live_port_is_not_given_again, removed_is_not_found};
+pub use laws::{
+    ephemeral_ports_rise, goes_to_the_first, live_port_is_not_given_again, removed_is_not_found,
+};
 pub use table::{NoMemory, UdpTable};
