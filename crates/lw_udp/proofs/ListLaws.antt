@@ -1,4 +1,4 @@
-use Rattle.std.proofs.Common.{◌≡◌, ℕ, zero, suc, ◌+◌, ◌<◌, ◌≤◌, Bool, true, false, not, cond, List, [], ◌∷◌, ◌++◌, length, get_or, set, take, drop, map, filter, find, Option, Some, None, refl, ap, sym, subst, ◌∙◌, append_assoc, arith, All, Contains}
+use Rattle.std.proofs.Common.{◌≡◌, ℕ, zero, suc, ◌+◌, ◌<◌, ◌≤◌, Bool, true, false, not, ◌||◌, cond, List, [], ◌∷◌, ◌++◌, length, get_or, set, take, drop, map, filter, find, Option, Some, None, refl, ap, sym, subst, ◌∙◌, append_assoc, arith, All, Contains}
 use Rattle.std.specs.List.{list_any, filter_map, cons_option}
 use Rattle.std.proofs.lemmas.Bool.{false≢true}
 use Rattle.std.proofs.lemmas.List.Elements.{All-nil, All-cons}
@@ -99,3 +99,12 @@ nothing_given {X} h (x ∷ xs) none =
       | None ↦ λ e rest. All-cons (λ (x : X). h x ≡ None) x xs e (nothing_given h xs rest)
       | Some b ↦ λ e rest. absurd (cc)
     ] refl none
+
+-- where nothing is found no element passes
+pub not_found : {X : Type 0} (p : X → Bool) (xs : List X) → find p xs ≡ None → list_any p xs ≡ false
+not_found p [] none = refl
+not_found {X} p (x ∷ xs) none =
+    elim (p x) as (λ b. cond b (Some x) (find p xs) ≡ None → (b || list_any p xs) ≡ false) [
+      | true ↦ λ h. absurd (cc)
+      | false ↦ λ h. not_found p xs h
+    ] none

@@ -1,7 +1,13 @@
-use Rattle.std.proofs.Common.{◌≡◌, ℕ, ◌+◌, ◌-◌, ◌*◌, ◌/◌, ◌%◌, ◌<◌, ◌≤◌, Bool, true, false, refl, ◌∙◌, ap, arith, leb}
+use Rattle.std.proofs.Common.{◌≡◌, ℕ, ◌+◌, ◌-◌, ◌%◌, ◌<◌, ◌≤◌, Bool, true, false, not, List, length, map, None, refl, sym, ◌∙◌, ap, zero-add, arith, leb, Contains}
+use Rattle.std.specs.List.{range_with_len}
+use Rattle.std.proofs.lemmas.List.{get_or-map}
+use Rattle.std.proofs.lemmas.List.FromFn.{length-range_with_len, length-map-range_with_len, get_or-range_with_len}
 use Rattle.std.proofs.lemmas.Bool.Decides.{nat_tests}
 use Rattle.lw_base.specs.declared.addresses.Port.{Port}
-use Rattle.lw_udp.specs.Ports.{port_after}
+use Rattle.lw_udp.specs.declared.ends.UdpEnd.{UdpEnd}
+use Rattle.lw_udp.specs.Ends.{Table}
+use Rattle.lw_udp.specs.Ports.{port_after, is_used, first_free, free_port}
+use Rattle.lw_udp.proofs.ListLaws.{each_fails, not_found}
 use Rattle.lw_udp.specs.Laws.{PortsLaw}
 
 -- the places behind g that reach q, where the place of g + 1 is no greater, and where it is
@@ -30,5 +36,29 @@ every given port low high =
 rising : (given : Port) → 49152 ≤ given.0 → given.0 < 65535 → (port_after given 0).0 ≡ given.0 + 1
 rising given low high = omega arith
 
+contains_turn : (f : ℕ → Port) (n k : ℕ) → k < n → Contains (map f (range_with_len 0 n)) (f k)
+contains_turn f n k below =
+    let long : length (map f (range_with_len 0 n)) ≡ n = length-map-range_with_len f 0 n in
+    let len : length (range_with_len 0 n) ≡ n = length-range_with_len 0 n in
+    let within : k < length (range_with_len 0 n) = omega arith in
+    (k, omega arith, get_or-map f (range_with_len 0 n) k 0 (f k) within ∙ ap f (get_or-range_with_len 0 n k 0 below ∙ zero-add k))
+
+fails_not : (b : Bool) → not b ≡ false → b ≡ true
+fails_not true h = refl
+fails_not false h = absurd (cc)
+
+used_at : (ends : List UdpEnd) (given : Port) (n k : ℕ) → k < n → first_free ends given n ≡ None → is_used ends (port_after given k) ≡ true
+unfolding first_free
+used_at ends given n k below none =
+    let free : Port → Bool = λ port. not (is_used ends port) in
+    let all = map (port_after given) (range_with_len 0 n) in
+    fails_not _ (each_fails free all (port_after given k) (contains_turn (port_after given) n k below) (not_found free all none))
+
+full : (t : Table) (port : Port) → 49152 ≤ port.0 → port.0 < 65536 → free_port t ≡ None → is_used t.ends port ≡ true
+full t port low high none =
+    let at = every t.given port.0 low high in
+    let same : port_after t.given at.0 ≡ port = ap (λ (n : ℕ). let p : Port = record { 0 = n } in p) at.2 in
+    ap (is_used t.ends) (sym same) ∙ used_at t.ends t.given 16384 at.0 at.1 none
+
 pub ports : PortsLaw
-ports = record { rising = rising; around = refl; every = every }
+ports = record { rising = rising; around = refl; every = every; full = full }

@@ -1,10 +1,10 @@
-use Rattle.std.specs.Prelude.{◌≡◌, ◌≢◌, ◌≤◌, ◌<◌, ◌+◌, ℕ, false, List, Some, None, Ok, Contains}
+use Rattle.std.specs.Prelude.{◌≡◌, ◌≢◌, ◌≤◌, ◌<◌, ◌+◌, ℕ, true, false, List, Some, None, Ok, Contains}
 use Rattle.lw_base.specs.declared.addresses.Ip.{Ip}
 use Rattle.lw_base.specs.declared.addresses.Port.{Port}
 use Rattle.lw_udp.specs.declared.ends.UdpEnd.{UdpEnd}
 use Rattle.lw_udp.specs.Ends.{Socket, Table, end_of, removed}
 use Rattle.lw_udp.specs.Delivery.{best, GoesTo, GoesNowhere}
-use Rattle.lw_udp.specs.Ports.{port_after, free_port, bind_port, clash}
+use Rattle.lw_udp.specs.Ports.{port_after, is_used, free_port, bind_port, clash}
 
 -- a datagram goes to the least connection of the best class: nobody's claim goes before its claim, and where it goes
 -- nowhere nobody has one
@@ -26,8 +26,10 @@ pub record RemovedLaw : Type 0 where
   pub no_end : (t : Table) (conn : ℕ) → end_of (removed t conn).ends conn ≡ None
   pub no_datagram : (t : Table) (conn : ℕ) (src dst : Socket) → best src dst (removed t conn).ends ≢ Some conn
 
--- the ephemeral ports are all from 49,152 to 65,535, in rising order, and 49,152 comes after 65,535
+-- the ephemeral ports are all from 49,152 to 65,535, in rising order, and 49,152 comes after 65,535; where none comes
+-- next, each is in use
 pub record PortsLaw : Type 0 where
   pub rising : (given : Port) → 49152 ≤ given.0 → given.0 < 65535 → (port_after given 0).0 ≡ given.0 + 1
   pub around : (port_after (record { 0 = 65535 }) 0).0 ≡ 49152
   pub every : (given : Port) (port : ℕ) → 49152 ≤ port → port < 65536 → (k : ℕ) × (k < 16384) × ((port_after given k).0 ≡ port)
+  pub full : (t : Table) (port : Port) → 49152 ≤ port.0 → port.0 < 65536 → free_port t ≡ None → is_used t.ends port ≡ true
