@@ -1,4 +1,5 @@
-pub mod InputLemmas
+pub mod HistoryLaws
+mod InputLemmas
 pub mod Feeding
 pub mod PlainCore
 pub mod OneThread

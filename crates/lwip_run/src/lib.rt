@@ -2,6 +2,7 @@
 #![tactic(auto)]
 
 mod files_in;
+mod history;
 mod inputs;
 mod lines;
 mod one_thread;
@@ -10,6 +11,7 @@ mod plain_api;
 mod refusal;
 mod texts;
 
+pub use history::History;
 pub use inputs::{InputFault, read_whole};
 pub use one_thread::serial;
 pub use plain::lwip_plain;

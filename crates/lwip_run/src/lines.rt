@@ -1,12 +1,11 @@
-ghost use Rattle.std.specs.Prelude.{◌≡◌, [], ◌∷◌, IfOk};
-ghost use Rattle.lw_rules.specs.Lines.{core_lines_from, frames_sent};
+ghost use Rattle.std.specs.Prelude.{◌≡◌, [], ◌∷◌, IfOk, length, sum_by};
 ghost use Rattle.lw_rules.specs.Schedule.{body_of};
 ghost use Rattle.lw_script.specs.Driver.{driver_calls};
 ghost use Rattle.lwip_run.specs.Parts.{part_of, parts_of};
 
+use crate::history::History;
 use lw_actors::DoneCall;
 use lw_base::{Octets, Series};
-use lw_events::Entry;
 use lw_script::{Call, Script};
 use lw_transcript::{ActorPart, Body, CallPart, CoreLine, EndLine};
 use std::alloc::{AllocError, Global};
@@ -16,13 +15,13 @@ pub fn body(
     alloc: Global,
     calls: &[Call],
     done: Vec<DoneCall>,
-    entries: Vec<Entry>,
+    history: History,
 ) -> Result<Body, AllocError>
-    ensures { IfOk result (λ b. b ≡ body_of entries.items (parts_of calls.now done.items)) }
+    ensures { IfOk result (λ b. b ≡ body_of history (parts_of calls.now done.items)) }
 {
-    let core = u32::try_from(entries.len()).map_err(|_| AllocError)?;
-    let out = sent(&entries)?;
-    let lines = core_lines(alloc, entries)?;
+    let lines = history.into_lines();
+    let core = u32::try_from(lines.len()).map_err(|_| AllocError)?;
+    let out = sent(&lines)?;
     let actors = driver_part(alloc, call_parts(alloc, calls, done)?)?;
     Ok(Body {
         core: Series::from_vec(lines),
@@ -50,26 +49,13 @@ fn driver_part(alloc: Global, calls: Vec<CallPart>) -> Result<Vec<ActorPart>, Al
     Ok(actors)
 }
 
-/// The lines of a history, numbered from 1.
-fn core_lines(alloc: Global, entries: Vec<Entry>) -> Result<Vec<CoreLine>, AllocError>
-    ensures { IfOk result (λ lines. lines.items ≡ core_lines_from 1 entries.items) }
-{
-    let mut lines = Vec::with_capacity(alloc, entries.len())?;
-    let mut number = 1u32;
-    for entry in entries {
-        lines.push(CoreLine { number, entry })?;
-        number = number.checked_add(1).ok_or(AllocError)?;
-    }
-    Ok(lines)
-}
-
-/// How many frames the entries sent.
-fn sent(entries: &[Entry]) -> Result<u32, AllocError>
-    ensures { IfOk result (λ n. n ≡ frames_sent entries.now) }
+/// How many frames the entries of these lines sent.
+fn sent(lines: &[CoreLine]) -> Result<u32, AllocError>
+    ensures { IfOk result (λ n. n ≡ sum_by (λ line. length line.entry.frames) lines.now) }
 {
     let mut total = 0u32;
-    for entry in entries {
-        let frames = u32::try_from(entry.frames.len()).map_err(|_| AllocError)?;
+    for line in lines {
+        let frames = u32::try_from(line.entry.frames.len()).map_err(|_| AllocError)?;
         total = total.checked_add(frames).ok_or(AllocError)?;
     }
     Ok(total)

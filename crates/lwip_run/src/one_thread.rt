@@ -31,7 +31,7 @@ pub fn serial<P: Payload<Home: Drop>>(
     let mut progress = run_serial(alloc, &mut api, script)?;
     let done = progress.remove(0).done.into_vec();
     let calls = all_calls(alloc, script)?;
-    let body = body(alloc, &calls, done, api.into_entries(alloc))?;
+    let body = body(alloc, &calls, done, api.into_history(alloc))?;
     Ok(Transcript {
         version: Version::One,
         kind: Kind::Serial,

@@ -4,10 +4,11 @@ ghost use Rattle.lw_core.specs.Held.{held_by};
 ghost use Rattle.lw_rules.specs.Schedule.{made, named_from, turn};
 ghost use Rattle.lwip_run.specs.Plain.{FedAll, IsBody, NeverRefuses, TakesFrame};
 
+use crate::history::History;
 use lw_actors::{Api, Step};
 use lw_base::{FrameList, Octets};
 use lw_core::Core;
-use lw_events::{Entry, Event};
+use lw_events::Event;
 use lw_payload::{Kind, MakeFault, Payload};
 use lw_script::Call;
 use lw_transcript::{Evidence, Outcome};
@@ -22,7 +23,7 @@ pub struct PlainApi<P: Payload<Home: Drop>> {
     core: Core<P>,
     home: P::Home,
     left: IntoIter<Octets>,
-    entries: Vec<Entry>,
+    entries: History,
 }
 
 impl<P: Payload<Home: Drop>> Model for PlainApi<P> {
@@ -33,7 +34,7 @@ impl<P: Payload<Home: Drop>> Model for PlainApi<P> {
 
     ghost Value = { Configuration };
 
-    ghost view = { λ a. record { state = a.core.state; left = into_iter_items a.left; entries = a.entries.items } };
+    ghost view = { λ a. record { state = a.core.state; left = into_iter_items a.left; entries = a.entries } };
 
     ghost invariant = { λ a. IsAtHome P.seen P.home_seen P.may_refuse a.home (held_by a.core) (into_iter_items a.left) };
 }
@@ -50,13 +51,13 @@ impl<P: Payload<Home: Drop>> PlainApi<P> {
             core,
             home,
             left: frames.into_vec().into_iter(),
-            entries: Vec::new(alloc),
+            entries: History::new(alloc),
         }
     }
 
     /// The history. What the core holds goes to the Home, but for want of memory.
-    pub fn into_entries(self, alloc: Global) -> Vec<Entry>
-        ensures { result.items ≡ self.entries }
+    pub fn into_history(self, alloc: Global) -> History
+        ensures { result ≡ self.entries }
     {
         let PlainApi {
             core,
@@ -94,8 +95,7 @@ impl<P: Payload<Home: Drop>> PlainApi<P> {
             Ok(made) => made,
             Err((none, _)) => return Err(none),
         };
-        self.entries.push(entry)?;
-        u32::try_from(self.entries.len()).map_err(|_| AllocError)
+        self.entries.push(entry)
     }
 
     /// Ends the run and answers the number of the entry.
@@ -106,8 +106,7 @@ impl<P: Payload<Home: Drop>> PlainApi<P> {
             Ok(made) => made,
             Err((none, _)) => return Err(none),
         };
-        self.entries.push(entry)?;
-        u32::try_from(self.entries.len()).map_err(|_| AllocError)
+        self.entries.push(entry)
     }
 
     /// Feeds the frames that are left.

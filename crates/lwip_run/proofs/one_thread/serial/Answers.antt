@@ -18,8 +18,8 @@ returns g c =
     c.new-api.ensures
     ∙ ap (λ (s : State). let begun : Configuration = record { state = s; left = c.args.frames; entries = [] } in begun) core in
     run_is_serial c.args.script.now c.args.frames c.new-api.result c.run_serial.new.api c.in_ok-progress.progress.items
-    c.remove.result c.into_entries.result.items c.deref.result.now c.into_vec-done.result.items c.in_ok-body.body
-    begins c.in_ok-progress.ensures c.remove.ensures.value c.into_vec-done.ensures c.into_entries.ensures
+    c.remove.result c.into_history.result c.deref.result.now c.into_vec-done.result.items c.in_ok-body.body
+    begins c.in_ok-progress.ensures c.remove.ensures.value c.into_vec-done.ensures c.into_history.ensures
     (c.deref.ensures.value ∙ c.in_ok-calls.ensures) c.in_ok-body.ensures
 
 pub new-api-requires-clause-short : goal.new-api-requires-clause-short

@@ -24,14 +24,6 @@ invariant_of-self-in-Err g c =
     same_home payload.seen payload.home_seen payload.may_refuse c.made_frame.new.home c.step.new.home c.self.inside.core c.step.new.self
     left c.in-Err.ensures.err.1 c.in-Err.ensures.err.0 made
 
-pub invariant_of-self-in_err-push : goal.invariant_of-self-in_err-push
-invariant_of-self-in_err-push g c =
-    let payload = g.P.Payload in
-    let held = held_by c.self.inside.core in
-    moved_home payload.seen payload.home_seen payload.may_refuse c.self.inside.home c.made_frame.new.home c.step.new.home held
-    (c.in_ok-frame.frame ∷ held) (held_by c.step.new.self) (into_iter_items c.self.inside.left)
-    (c.in_ok-frame.ensures.owned held c.self.invariant.owned) c.in-Ok.ensures.moves c.self.invariant
-
 pub invariant_of-self-2 : goal.invariant_of-self-2
 invariant_of-self-2 g c =
     let payload = g.P.Payload in
