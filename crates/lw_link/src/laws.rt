@@ -7,7 +7,8 @@ ghost use Rattle.lw_frag.specs.Pieces.{IsWhole};
 ghost use Rattle.lw_base.specs.declared.addresses.Ip.{Ip};
 ghost use Rattle.lw_wire.specs.Eth.{eth_spelling};
 ghost use Rattle.lw_wire.specs.Arp.{arp_spelling};
-ghost use Rattle.lw_link.specs.Way.{arp_request};
+ghost use Rattle.lw_link.specs.Plans.{IsOver, Plans};
+ghost use Rattle.lw_link.specs.Way.{arp_request, emits, Link};
 
 use crate::{Body, LinkPlan, NoMemory};
 use lw_arp::ArpTable;
@@ -29,8 +30,8 @@ pub fn answer_alone(alloc: Global, netif: &Netif, request: &ArpPacket) -> Result
     Ok(plan)
 }
 
-/// What two datagrams to one address send in one event: where nothing is known of their next hop, it is
-/// asked for once, and no packet goes out.
+/// What two datagrams to one address send in one event, one after the other: where nothing is known of
+/// their next hop, it is asked for once, and no packet goes out.
 pub fn emit_both<P>(
     alloc: Global,
     netif: &Netif,
@@ -44,6 +45,8 @@ pub fn emit_both<P>(
     requires split { head.now.df ≡ false }
     requires first { length first.now ≤ 65535 }
     requires second { length second.now ≤ 65535 }
+    ensures exact { IfOk result (λ p. (l : Link) → IsOver netif.now table.now l → l.next_id ≡ 0
+        → Plans p l (emits may_wait (record { link = l; out = [] }) ((head.now, first.now) ∷ (head.now, second.now) ∷ []))) }
     ensures once { IfOk result (λ p. (hop : Ip) → route_of netif.now head.now.dst ≡ Ok hop → state_of table.now hop ≡ EntryState.Empty → p.frames.items ≡ arp_request netif.now hop ∷ []) }
 {
     let mut plan = LinkPlan::new(alloc, 0);

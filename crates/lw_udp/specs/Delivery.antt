@@ -43,6 +43,7 @@ abbrev pub goes_before : Claim → Claim → Bool
 goes_before a b =
     nat_lt (rank a.class) (rank b.class) || ((rank a.class == rank b.class) && nat_lt a.conn b.conn)
 
+-- the one of two claims that goes first
 abbrev pub first_of : Claim → Claim → Claim
 first_of a b = if goes_before b a then b else a
 

@@ -9,6 +9,7 @@ use Rattle.lw_udp.specs.declared.ends.UdpEnd.{UdpEnd}
 abbrev pub Socket : Type 0
 Socket = Ip × Port
 
+-- both are the same
 abbrev pub same_socket : Socket → Socket → Bool
 same_socket a b = (a.0.0 == b.0.0) && (a.1.0 == b.1.0)
 
@@ -21,10 +22,11 @@ pub record Table : Type 0 where
 abbrev pub empty : Table
 empty = record { ends = []; given = record { 0 = 65535 } }
 
--- the end of a connection
+-- an end of this connection
 abbrev pub is_of : ℕ → UdpEnd → Bool
 is_of conn e = e.conn == conn
 
+-- the end of a connection, if it has one
 abbrev pub end_of : List UdpEnd → ℕ → Option UdpEnd
 end_of ends conn = find (is_of conn) ends
 
@@ -39,6 +41,7 @@ remote_of ends conn = option_and_then (λ e. e.remote) (end_of ends conn)
 abbrev pub unbound : ℕ → UdpEnd
 unbound conn = record { conn = conn; local = None; remote = None }
 
+-- an end that is bound, or connected, to this
 abbrev pub with_local : Socket → UdpEnd → UdpEnd
 with_local to e = record e { local = Some to }
 

@@ -18,6 +18,7 @@ pub record NotGiven (t : Table) (local : Socket) : Type 0 where
   pub ephemeral : free_port t ≢ Some local.1
   pub by_bind : (conn : ℕ) (own ip : Ip) (port given : Port) → bind_port t conn own ip port ≡ Ok given → clash local (ip, given) ≡ false
 
+-- no live socket is given again
 abbrev pub LivePortLaw : Type 0
 LivePortLaw = (t : Table) (e : UdpEnd) (local : Socket) → Contains t.ends e → e.local ≡ Some local → NotGiven t local
 

@@ -50,10 +50,11 @@ clashes to e = option_map_or (λ local. clash local to) e.local false
 abbrev pub wanted : Table → Port → Option Port
 wanted t port = if port.0 == 0 then free_port t else Some port
 
--- the port that may be given at an address: BUF where there is none, USE where its socket clashes with one in use
+-- a port, or USE where it is taken
 abbrev pub unless_taken : Bool → Port → Result Port Code
 unless_taken taken port = if taken then Err Use else Ok port
 
+-- the port that may be given at an address: BUF where there is none, USE where its socket clashes with one in use
 abbrev pub granted : List UdpEnd → Ip → Option Port → Result Port Code
 granted ends ip None = Err Buf
 granted ends ip (Some port) = unless_taken (list_any (clashes (ip, port)) ends) port
@@ -82,6 +83,7 @@ bound_by t conn (Some local) port = Ok t
 bound_by t conn None (Some port) = Ok (with_port t conn (record { 0 = 0 }) (record { 0 = 0 }) port)
 bound_by t conn None None = Err Buf
 
+-- the table in which a connection is bound, or BUF
 abbrev pub bound : Table → ℕ → Result Table Code
 bound t conn = bound_by t conn (local_of t.ends conn) (free_port t)
 

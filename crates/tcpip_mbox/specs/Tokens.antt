@@ -56,6 +56,7 @@ module _ {M K : Type 0} where
   ArePuts m lines [] = ⊥
   ArePuts m lines (p ∷ ps) = (p ≡ fresh m.table (Some m.key) 0 (lines - 1)) × AreNumbered m.table (Some m.key) 1 ps × (length (p ∷ ps) ≡ lines)
 
+  -- what contracts see of a pass: as a Put with this number, as the Get, as a note
   abbrev pub sender_at : Pass (Letter M) (View M K) → ℕ → Sender M K
   sender_at p number = let v : View M K = view p in record { table = p.table_id; key = v.key; number = number; others = v.others; sent = v.sent; known = v.known }
 
@@ -65,11 +66,14 @@ module _ {M K : Type 0} where
   abbrev pub noted_at : Pass (Letter M) (View M K) → Noted M
   noted_at p = record { table = p.table_id; given = (view p).given }
 
+  -- the pass is that of the Put with this number, and has no slot
   abbrev pub IsPutting : Pass (Letter M) (View M K) → ℕ → Type 0
   IsPutting p number = (p.me.1 ≡ []) × ((view p).puts ≡ true) × ((view p).gets ≡ false) × ((view p).number ≡ number)
 
+  -- the pass is the Get's
   abbrev pub IsGetting : Pass (Letter M) (View M K) → Type 0
   IsGetting p = (p.me.1 ≡ []) × ((view p).gets ≡ true)
 
+  -- the pass is a note, which may neither put in nor take out
   abbrev pub IsNote : Pass (Letter M) (View M K) → Type 0
   IsNote p = (p.me.1 ≡ []) × (view p ≡ teller (view p).given)

@@ -25,9 +25,11 @@ module _ {M K : Type 0} where
   abbrev pub both_ways : Option K → ℕ → View M K
   both_ways key others = record { key = key; puts = true; number = 0; others = others; sent = []; known = 0; gets = true; given = [] }
 
+  -- it has no key yet, and there is no other Put
   abbrev pub firstborn : View M K
   firstborn = both_ways None 0
 
+  -- the pass that knows a key
   abbrev pub with_key : Option K → View M K → View M K
   with_key key v = record v { key = key }
 
@@ -47,6 +49,7 @@ module _ {M K : Type 0} where
   abbrev pub getting : View M K → View M K
   getting v = getter v.key v.others v.given
 
+  -- a note of what this pass knows as given
   abbrev pub telling : View M K → View M K
   telling v = teller v.given
 
@@ -54,8 +57,10 @@ module _ {M K : Type 0} where
   abbrev pub met : View M K → View M K → View M K
   met v w = record v { known = max v.known (length (sent_by v.number w.given)); given = w.given }
 
+  -- the Put has put a letter in
   abbrev pub sent_one : View M K → Letter M → View M K
   sent_one v x = record v { sent = v.sent ++ x.message ∷ [] }
 
+  -- the Get has given a letter
   abbrev pub got_one : View M K → Letter M → View M K
   got_one v x = record v { given = v.given ++ x ∷ [] }

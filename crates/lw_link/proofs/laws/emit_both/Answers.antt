@@ -17,6 +17,9 @@ returns g c =
     let one = c.in_ok-emit.ensures.exact l m over (c.new-plan.ensures.exact l refl) in
     let two = c.in_ok-emit-2.ensures.exact l (emit c.args.may_wait m head c.args.first.now) over one in
     record {
+      exact = λ k at id.
+          c.in_ok-emit-2.ensures.exact k (emit c.args.may_wait (record { link = k; out = [] }) head c.args.first.now) at
+          (c.in_ok-emit.ensures.exact k (record { link = k; out = [] }) at (c.new-plan.ensures.exact k id));
       once = λ hop route empty.
           ap (λ (w : Way). w.out) two.made
           ∙ asks_once c.args.may_wait l head c.args.first.now c.args.second.now hop route (state_of-map_entries (λ _. []) t hop ∙ empty);
