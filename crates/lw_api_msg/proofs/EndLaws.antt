@@ -18,7 +18,7 @@ has_changed : (es : List UdpEnd) (conn n : ℕ) (f : UdpEnd → UdpEnd) → ((e 
 has_changed [] conn n f keeps = refl
 has_changed (e ∷ es) conn n f keeps =
     let x : UdpEnd = if is_of conn e then f e else e in
-    let same : x.conn ≡ e.conn = elim (is_of conn e) as (λ b. (if b then f e else e).conn ≡ e.conn) [ | true ↦ keeps e | false ↦ refl ] in
+    let same : x.conn ≡ e.conn = elim (is_of conn e) as (λ b. (if b then f e else e).conn ≡ e.conn) [ true ↦ keeps e | false ↦ refl ] in
     let rest = has_changed es conn n f keeps in
     ap (λ (c : ℕ). is_some (cond (c == n) (Some x) (end_of (changed es conn f) n))) same
     ∙ elim (e.conn == n) as (λ b. is_some (cond b (Some x) (end_of (changed es conn f) n)) ≡ is_some (cond b (Some e) (end_of es n))) [
@@ -54,7 +54,7 @@ has_removed (e ∷ es) conn n other =
       | true ↦ λ own.
           let its = eqb-true e.conn conn own in
           rest ∙ ap (λ (b : Bool). is_some (cond b (Some e) (end_of es n))) (sym (ne_eqb e.conn n (λ same. other (sym same ∙ its))))
-      | false ↦ λ _. elim (e.conn == n) as (λ b. is_some (cond b (Some e) (end_of (filter (λ x. not (is_of conn x)) es) n)) ≡ is_some (cond b (Some e) (end_of es n))) [ | true ↦ refl | false ↦ rest ]
+      | false ↦ λ _. elim (e.conn == n) as (λ b. is_some (cond b (Some e) (end_of (filter (λ x. not (is_of conn x)) es) n)) ≡ is_some (cond b (Some e) (end_of es n))) [ true ↦ refl | false ↦ rest ]
     ] refl
 
 has_none : (es : List UdpEnd) (conn : ℕ) → is_some (end_of (filter (λ e. not (is_of conn e)) es) conn) ≡ false

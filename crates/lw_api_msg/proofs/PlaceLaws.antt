@@ -5,9 +5,9 @@ use Rattle.std.proofs.lemmas.Option.{slice_get_past}
 
 above : (n l : ℕ) → (n ≡ 0 → ⊥) → n - 1 ≡ l → n ≡ l + 1
 above n l some same = elim n as (λ m. (m ≡ 0 → ⊥) → m - 1 ≡ l → m ≡ l + 1) [
-    | zero ↦ λ s e. absurd (s refl)
-    | suc m ↦ λ s e. omega (arith, e)
-  ] some same
+  | zero ↦ λ s e. absurd (s refl)
+  | suc m ↦ λ s e. omega (arith, e)
+] some same
 
 no_zero : (l : ℕ) → (l + 1 == 0) ≡ true → ⊥
 no_zero l e = let z = eqb-true (l + 1) 0 e in absurd (omega (arith, z))

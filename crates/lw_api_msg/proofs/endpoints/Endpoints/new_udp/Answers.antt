@@ -12,8 +12,8 @@ invariant_of-self-in-Err c = λ n.
     let next = next_is (nat_lt (live_count c.self.inside.conns) c.args.limits.now.live && nat_lt (length c.self.inside.conns) 4096) c.self.inside.conns c.in-Some.conn (sym c.next.ensures ∙ c.in-Some.is) in
     let none = none_yet c.self.inside.udp.ends c.self.inside.conns c.self.invariant c.in-Some.conn next in
     let back : c.remove.new.self ≡ c.self.inside.udp =
-        c.remove.ensures ∙ ap (λ (u : UdpTable). removed u c.in-Some.conn) c.in_ok-add.ensures.table
-        ∙ ap (λ (es : List UdpEnd). record c.self.inside.udp { ends = es }) (made_and_removed c.self.inside.udp.ends c.in-Some.conn none) in
+    c.remove.ensures ∙ ap (λ (u : UdpTable). removed u c.in-Some.conn) c.in_ok-add.ensures.table
+    ∙ ap (λ (es : List UdpEnd). record c.self.inside.udp { ends = es }) (made_and_removed c.self.inside.udp.ends c.in-Some.conn none) in
     ap (λ (t : UdpTable). is_some (end_of t.ends n)) back
     ∙ c.self.invariant n
     ∙ sym (ap (λ (cs : List (Option Connection)). is_some (connection cs n)) c.in-Err.ensures.err)
@@ -23,8 +23,8 @@ returns-in-Err-clause-err c =
     let next = next_is (nat_lt (live_count c.self.inside.conns) c.args.limits.now.live && nat_lt (length c.self.inside.conns) 4096) c.self.inside.conns c.in-Some.conn (sym c.next.ensures ∙ c.in-Some.is) in
     let none = none_yet c.self.inside.udp.ends c.self.inside.conns c.self.invariant c.in-Some.conn next in
     let back : c.remove.new.self ≡ c.self.inside.udp =
-        c.remove.ensures ∙ ap (λ (u : UdpTable). removed u c.in-Some.conn) c.in_ok-add.ensures.table
-        ∙ ap (λ (es : List UdpEnd). record c.self.inside.udp { ends = es }) (made_and_removed c.self.inside.udp.ends c.in-Some.conn none) in
+    c.remove.ensures ∙ ap (λ (u : UdpTable). removed u c.in-Some.conn) c.in_ok-add.ensures.table
+    ∙ ap (λ (es : List UdpEnd). record c.self.inside.udp { ends = es }) (made_and_removed c.self.inside.udp.ends c.in-Some.conn none) in
     let conns = c.in-Err.ensures.err in
     search (back, conns, c.self.view_is)
 
