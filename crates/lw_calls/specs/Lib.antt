@@ -4,3 +4,4 @@ pub mod Replies
 pub mod Rounds
 pub mod Machine
 pub mod Fits
+pub mod Laws

@@ -4,6 +4,7 @@
 
 mod answers;
 mod copies;
+mod laws;
 mod machine;
 mod replies;
 mod rounds;
@@ -15,4 +16,5 @@ pub use call_places::{
     Seen, SeenList, Selecting, Sending, Stage, Step, Target, TargetList, Then, Timing, Turn, Use,
     VarUse, Want,
 };
+pub use laws::a_look_makes_no_event;
 pub use machine::{ask, is_resting, start, step};
