@@ -96,11 +96,7 @@ pub fn call(alloc: Global, line: &str) -> Result<Call, Fail> {
             Port(port.parse::<u16>()?),
         )),
         ["listen", v] => Ok(Call::Listen(interface, v.parse::<u32>()?)),
-        ["accept", v, w] => Ok(Call::Accept(
-            interface,
-            v.parse::<u32>()?,
-            w.parse::<u32>()?,
-        )),
+        ["accept", v, w] => Ok(Call::Accept(interface, v.parse::<u32>()?, w.parse::<u32>()?)),
         ["send", v, o] => Ok(Call::Send(interface, v.parse::<u32>()?, given(alloc, o)?)),
         ["sendto", v, ip, port, o] => Ok(Call::SendTo(
             interface,
@@ -139,16 +135,8 @@ fn other_call(alloc: Global, words: &[&str]) -> Result<Call, Fail> {
         ["tick", n] => Ok(Call::Tick(n.parse::<u32>()?)),
         ["stop"] => Ok(Call::Stop),
         ["pump", n] => Ok(Call::Pump(n.parse::<u32>()?)),
-        ["until", at, s, k] => Ok(Call::Until(
-            side(at),
-            s.parse::<u32>()?,
-            k.parse::<u32>()?,
-        )),
-        ["await", at, s, k] => Ok(Call::AwaitSide(
-            side(at),
-            s.parse::<u32>()?,
-            k.parse::<u32>()?,
-        )),
+        ["until", at, s, k] => Ok(Call::Until(side(at), s.parse::<u32>()?, k.parse::<u32>()?)),
+        ["await", at, s, k] => Ok(Call::AwaitSide(side(at), s.parse::<u32>()?, k.parse::<u32>()?)),
         _ => Err(Fail::new("a call of no form")),
     }
 }
@@ -203,10 +191,7 @@ fn reply(words: &[&str]) -> Result<Reply, Fail> {
         ["count", n] => Ok(Reply::Count(n.parse::<u32>()?)),
         ["frames", n] => Ok(Reply::Frames(n.parse::<u32>()?)),
         ["ticks", n] => Ok(Reply::Ticks(n.parse::<u32>()?)),
-        ["addr", ip, port] => Ok(Reply::Addr(
-            Ip(ip.parse::<u32>()?),
-            Port(port.parse::<u16>()?),
-        )),
+        ["addr", ip, port] => Ok(Reply::Addr(Ip(ip.parse::<u32>()?), Port(port.parse::<u16>()?))),
         [code] => {
             let found = ERRS.iter().find(|e| e.word() == *code).ok_or("a code")?;
             Ok(Reply::Fail(*found))
@@ -232,9 +217,7 @@ fn piece(alloc: Global, words: &[&str]) -> Result<Piece, Fail> {
             ticket: ticket.parse::<u32>()?,
             fresh: fresh.parse::<u32>()?,
         }),
-        ["nothing", posted, claimed, flags] => {
-            Ok(Piece::Nothing(word(posted, claimed, flags)?))
-        }
+        ["nothing", posted, claimed, flags] => { Ok(Piece::Nothing(word(posted, claimed, flags)?)) }
         _ => Err(Fail::new("a piece")),
     }
 }

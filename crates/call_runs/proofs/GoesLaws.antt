@@ -52,13 +52,13 @@ goes_more {S = S} gives actor s t u place at to before now later g step =
       given = given_more gives actor s place g.answers x t u g.given more.given;
       fitting = fitting_more place g.answers x g.fitting more.fitting;
       led = more.led ∙ sym (leads_more place g.answers x);
-      wrote = more.wrote ∙ (ap (λ (l : List Seen). l ++ wrote) g.wrote ∙ (append_assoc before (writes place g.answers) wrote ∙ ap (λ (l : List Seen). before ++ l) (sym (writes_more place g.answers x))))
+      wrote = more.wrote ∙ (ap (λ (l : List Seen). l ++ wrote) g.wrote ∙ (append_assoc before (writes place g.answers) wrote ∙ ap (λ (l : List Seen). before ++ l) (sym (writes_more place g.answers x))));
     }
 
 -- a call that went to its end was made
 pub call_made : {S : Type 0} (gives : S → ℕ → Ask → Answer → S → Type 0) (actor : ℕ) (caller : Caller) (s t : S) (call : Call) (before now : List Seen) (result : Outcome) → Goes gives actor s (begins caller call) before now t (Done result) → WasMade caller call before now result
 call_made gives actor caller s t call before now result g = record {
-    seen = writes (begins caller call) g.answers;
-    behind = g.wrote;
-    call_ = record { answers = g.answers; fitting = g.fitting; led = sym g.led; wrote = refl }
-  }
+  seen = writes (begins caller call) g.answers;
+  behind = g.wrote;
+  call_ = record { answers = g.answers; fitting = g.fitting; led = sym g.led; wrote = refl };
+}

@@ -33,10 +33,10 @@ none_run gives actor s calls = record { made = []; all = refl; ran = refl }
 -- one call less is left
 pub has_run_more : {S : Type 0} (gives : S → ℕ → Ask → Answer → S → Type 0) (actor : ℕ) (s t u : S) (calls left : List Call) (done : List DoneCall) (call : Call) (d : DoneCall) → HasRun gives actor s calls (call ∷ left) done t → Goes gives actor t (begins (caller_of actor) call) [] d.seen u (Done d.result) → HasRun gives actor s calls left (done ++ d ∷ []) u
 has_run_more gives actor s t u calls left done call d h made = record {
-    made = h.made ++ call ∷ [];
-    all = h.all ∙ sym (append_assoc h.made (call ∷ []) left);
-    ran = ran_more gives actor s t u h.made done call d h.ran made
-  }
+  made = h.made ++ call ∷ [];
+  all = h.all ∙ sym (append_assoc h.made (call ∷ []) left);
+  ran = ran_more gives actor s t u h.made done call d h.ran made;
+}
 
 -- at last none is
 pub all_run : {S : Type 0} (gives : S → ℕ → Ask → Answer → S → Type 0) (actor : ℕ) (s t : S) (calls : List Call) (done : List DoneCall) → HasRun gives actor s calls [] done t → Ran gives actor s calls done t

@@ -3,18 +3,19 @@ ghost use Rattle.std.specs.Prelude.{◌≡◌, ◌∷◌, [], IfOk};
 ghost use Rattle.lw_calls.specs.Machine.{uses, begins_close, begins_ticks, awaits, awaits_on, end_on, awaits_side, pumps, pumps_until, begins, portion_of, tries, waits_for, asks, is_pause, is_resting, less, feeds_on, after_feed, after_try, after_wait, steps};
 
 use crate::answers::{
-    emptied_of, fd_of, feeding_of, number_of, piece_of, reply_of, turn_of, var_of, whether_of, word_of,
+    emptied_of, fd_of, feeding_of, number_of, piece_of, reply_of, turn_of, var_of, whether_of,
+    word_of,
 };
 use crate::copies::{copy_event, copy_octets};
 use crate::replies::{after_reply, closes};
 use crate::rounds::{after_round, is_same, round_asks, rounds_on};
 use crate::uses::{after_fd, after_var};
 use call_places::{
-    Answer, Ask, Awaiting, Caller, FdUse, Feeding, NoMemory, Place, Portion, ReadKind, RoundsEnd, Selecting,
-    Stage, Step, Then, Timing, Use, VarUse, Want, after_accept, after_begin, after_connect_look,
-    after_count, after_now, after_pause, after_read, after_room, after_scan, after_stop,
-    after_write, ends, makes, no_lines, one_core, one_sight, see_next, selects, stray, timed, to,
-    waiting,
+    Answer, Ask, Awaiting, Caller, FdUse, Feeding, NoMemory, Place, Portion, ReadKind, RoundsEnd,
+    Selecting, Stage, Step, Then, Timing, Use, VarUse, Want, after_accept, after_begin,
+    after_connect_look, after_count, after_now, after_pause, after_read, after_room, after_scan,
+    after_stop, after_write, ends, makes, no_lines, one_core, one_sight, see_next, selects, stray,
+    timed, to, waiting,
 };
 use call_types::{Call, Interface, Outcome, Side, Sight};
 use lw_base::{Err, Series};
@@ -320,12 +321,7 @@ fn feeds_on(left: Option<u32>, burst: bool, fed: u32) -> Result<Place, NoMemory>
 }
 
 /// What a wait's try leads to.
-fn after_try(
-    alloc: Global,
-    want: Want,
-    timing: Timing,
-    answer: Answer,
-) -> Result<Step, NoMemory>
+fn after_try(alloc: Global, want: Want, timing: Timing, answer: Answer) -> Result<Step, NoMemory>
     ensures { IfOk result (λ s. s ≡ after_try want timing answer) }
 {
     match want {

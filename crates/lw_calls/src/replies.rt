@@ -37,13 +37,7 @@ fn names_new(alloc: Global, interface: Interface, var: u32, conn: u32) -> Place
 }
 
 /// What the reply to New leads to.
-fn after_new(
-    alloc: Global,
-    interface: Interface,
-    var: u32,
-    lines: SeenList,
-    reply: Reply,
-) -> Step
+fn after_new(alloc: Global, interface: Interface, var: u32, lines: SeenList, reply: Reply) -> Step
     ensures { result ≡ after_new interface var lines reply }
 {
     match reply {
@@ -70,12 +64,7 @@ fn makes_next(alloc: Global, alone: bool, event: EventText, after: Then, lines: 
 }
 
 /// One more event of a call behind one whose lines were held.
-fn follows(
-    alloc: Global,
-    event: EventText,
-    after: Then,
-    held: SeenList,
-) -> Result<Step, NoMemory>
+fn follows(alloc: Global, event: EventText, after: Then, held: SeenList) -> Result<Step, NoMemory>
     ensures { IfOk result (λ s. s ≡ follows event after held) }
 {
     let alone = held.is_empty();
@@ -153,10 +142,7 @@ fn after_free(alloc: Global, lines: SeenList, reply: Reply) -> Step
     ensures { result ≡ after_free lines reply }
 {
     match reply {
-        Reply::Conn(conn) => to(
-            makes(alloc, Event::Close(conn), Then::Closed(conn)),
-            lines,
-        ),
+        Reply::Conn(conn) => to(makes(alloc, Event::Close(conn), Then::Closed(conn)), lines),
         other => ends(outcome_of(other), lines),
     }
 }
@@ -218,13 +204,7 @@ fn is_in_progress(code: Err) -> bool
 }
 
 /// A connect isn't done at once.
-fn connect_failed(
-    progress: bool,
-    code: Err,
-    conn: u32,
-    nonblock: bool,
-    lines: SeenList,
-) -> Step
+fn connect_failed(progress: bool, code: Err, conn: u32, nonblock: bool, lines: SeenList) -> Step
     ensures { result ≡ connect_failed progress code conn nonblock lines }
 {
     match progress {

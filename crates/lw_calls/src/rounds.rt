@@ -156,10 +156,7 @@ fn came_by(
     ensures { IfOk result (λ s. s ≡ came_by enough signal n rounds) }
 {
     match enough {
-        true => Ok(ends(
-            Outcome::Ok,
-            one_sight(alloc, Sight::Count(signal, n))?,
-        )),
+        true => Ok(ends(Outcome::Ok, one_sight(alloc, Sight::Count(signal, n))?)),
         false => Ok(next_round(alloc, rounds)),
     }
 }
@@ -209,10 +206,7 @@ fn round_fed(alloc: Global, rounds: Rounds, feeding: Feeding) -> Result<Step, No
     ensures { IfOk result (λ s. s ≡ round_fed rounds feeding) }
 {
     match feeding {
-        Feeding::Fed => Ok(to(
-            Place::Round(RoundStage::Feed, rounds),
-            one_core(alloc)?,
-        )),
+        Feeding::Fed => Ok(to(Place::Round(RoundStage::Feed, rounds), one_core(alloc)?)),
         Feeding::Dropped(k, cause) => Ok(to(
             Place::Round(RoundStage::Feed, rounds),
             one_sight(alloc, Sight::Dropped(k, cause))?,

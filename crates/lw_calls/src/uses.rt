@@ -53,13 +53,7 @@ fn send_data(alloc: Global, given: Data) -> Result<SendData, NoMemory>
 }
 
 /// One datagram, to this address.
-fn sends_to(
-    alloc: Global,
-    conn: u32,
-    ip: Ip,
-    port: Port,
-    given: Data,
-) -> Result<Place, NoMemory>
+fn sends_to(alloc: Global, conn: u32, ip: Ip, port: Port, given: Data) -> Result<Place, NoMemory>
     ensures { IfOk result (λ p. p ≡ sends_to conn ip port given) }
 {
     let count = count_of(&given)?;
@@ -154,12 +148,7 @@ fn does(alloc: Global, used: Use, target: Target) -> Result<Place, NoMemory>
         Use::Send(given) => sends(alloc, target, given),
         Use::SendTo(ip, port, given) => sends_to(alloc, conn, ip, port, given),
         Use::Read(kind, count) => Ok(reads(target, kind, count, fd_timing(target))),
-        Use::TryItem => Ok(reads(
-            target,
-            ReadKind::Item,
-            0,
-            timed(None, Some(Due::AtOnce)),
-        )),
+        Use::TryItem => Ok(reads(target, ReadKind::Item, 0, timed(None, Some(Due::AtOnce)))),
         Use::Shutdown => Ok(makes(alloc, Event::Shutdown(conn), Then::Answer)),
         Use::Close => Ok(makes(alloc, Event::Close(conn), Then::Closed(conn))),
         Use::NoDelay(on) => Ok(makes(alloc, Event::NoDelay(conn, on), Then::Answer)),
@@ -207,10 +196,7 @@ fn conn_handle(alloc: Global, var: u32, named: Named, used: Use) -> Result<Step,
             let next = does(alloc, used, netconn_target(conn, named.proto))?;
             Ok(to(next, var_line(alloc, var, Some(Handle::Conn(conn)))?))
         }
-        Handle::Fd(fd) => Ok(fails(
-            Err::Val,
-            var_line(alloc, var, Some(Handle::Fd(fd)))?,
-        )),
+        Handle::Fd(fd) => Ok(fails(Err::Val, var_line(alloc, var, Some(Handle::Fd(fd)))?)),
     }
 }
 
@@ -219,10 +205,7 @@ fn fd_handle(alloc: Global, var: u32, handle: Handle, used: FdUse) -> Result<Ste
     ensures { IfOk result (λ s. s ≡ fd_handle handle var used) }
 {
     match handle {
-        Handle::Conn(conn) => Ok(fails(
-            Err::Val,
-            var_line(alloc, var, Some(Handle::Conn(conn)))?,
-        )),
+        Handle::Conn(conn) => Ok(fails(Err::Val, var_line(alloc, var, Some(Handle::Conn(conn)))?)),
         Handle::Fd(fd) => Ok(to(Place::Fd { var, fd, used }, no_lines(alloc))),
     }
 }
