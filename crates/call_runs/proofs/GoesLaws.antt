@@ -7,6 +7,7 @@ use Rattle.call_places.specs.declared.asks.Answer.{Answer}
 use Rattle.call_places.specs.declared.place.Caller.{Caller}
 use Rattle.call_places.specs.declared.place.Seen.{Seen}
 use Rattle.call_places.specs.declared.place.Place.{Place}
+use Rattle.call_places.specs.declared.place.Step.{Step}
 use Rattle.call_places.specs.declared.place.Place.TheVariants.{Done}
 use Rattle.lw_calls.specs.Machine.{begins, asks, steps}
 use Rattle.lw_calls.specs.Fits.{fits}
@@ -61,4 +62,14 @@ call_made gives actor caller s t call before now result g = record {
   seen = writes (begins caller call) g.answers;
   behind = g.wrote;
   call_ = record { answers = g.answers; fitting = g.fitting; led = sym g.led; wrote = refl };
+}
+
+-- one answer makes one step
+pub step_made : {S : Type 0} (gives : S → ℕ → Ask → Answer → S → Type 0) (actor : ℕ) (s t : S) (place : Place) (before now : List Seen) (asked : Ask) (answer : Answer) (made : Step) → asked ≡ asks place → gives s actor asked answer t → fits asked answer ≡ true → made ≡ steps place answer → now ≡ before ++ made.wrote → Steps gives actor s place before now t made.next
+step_made gives actor s t place before now asked answer made is given fitting led wrote = record {
+  answer = answer;
+  given = subst (λ (a : Ask). gives s actor a answer t) is given;
+  fitting = subst (λ (a : Ask). fits a answer ≡ true) is fitting;
+  led = ap (λ (m : Step). m.next) led;
+  wrote = wrote ∙ ap (λ (m : Step). before ++ m.wrote) led;
 }

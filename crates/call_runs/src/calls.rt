@@ -1,4 +1,4 @@
-ghost use Rattle.std.specs.Prelude.{◌≡◌, [], true, IfOk, IfErr, MatchResult};
+ghost use Rattle.std.specs.Prelude.{◌≡◌, ◌++◌, [], true, IfOk, OnOk, MatchResult};
 ghost use Rattle.call_places.specs.declared.place.Place.{Place as PlaceValue};
 ghost use Rattle.lw_calls.specs.Machine.{begins, is_resting};
 ghost use Rattle.call_runs.specs.Goes.{Goes, Steps, WasMade};
@@ -7,7 +7,7 @@ ghost use Rattle.call_runs.specs.Runs.{caller_of, Ran, AreCalls};
 use crate::{Api, DoneCall};
 use call_types::{Call, Outcome};
 use lw_base::Series;
-use lw_calls::{Caller, NoMemory, Place, Seen, Step, ask, is_resting, start, step};
+use lw_calls::{Caller, NoMemory, Place, Seen, SeenList, ask, is_resting, start, step};
 use std::alloc::{AllocError, Global};
 
 /// Makes one step of a call: asks, and goes where the answer leads.
@@ -22,10 +22,18 @@ fn step_on<A: Api>(
 {
     let asked = ask(alloc, &place)?;
     let answer = api.answer(alloc, actor, asked)?;
-    let Step { next, wrote } = step(alloc, place, answer)?;
+    let made = step(alloc, place, answer)?;
+    write_down(seen, made.wrote)?;
+    Ok(made.next)
+}
+
+/// Adds lines to what was seen.
+fn write_down(seen: &mut Vec<Seen>, wrote: SeenList) -> Result<(), NoMemory>
+    ensures { OnOk result (seen.new.items ≡ seen.old.items ++ wrote) }
+{
     let mut lines = wrote.into_vec();
     seen.append(&mut lines)?;
-    Ok(next)
+    Ok(())
 }
 
 /// Goes on with a call until it has ended, or would wait.
@@ -92,7 +100,8 @@ pub fn make_call<A: Api>(
     ensures made { IfOk result (λ r. WasMade caller call seen.old.items seen.new.items r) }
 {
     let place = start(alloc, caller, call);
-    finish(alloc, api, actor, place, seen)
+    let outcome = finish(alloc, api, actor, place, seen)?;
+    Ok(outcome)
 }
 
 /// Makes the calls of an actor, one after another.

@@ -1,5 +1,5 @@
 //! What the reply to a call's event leads to.
-ghost use Rattle.std.specs.Prelude.{◌≡◌, ◌∷◌, [], IfOk};
+ghost use Rattle.std.specs.Prelude.{◌≡◌, ◌==◌, ◌∷◌, [], IfOk};
 ghost use Rattle.lw_calls.specs.Replies.{ticks_on, names_new, after_new, makes_next, follows, is_full, open_failed, ends_so, after_open, after_free, after_close, close_one, closes, in_progress, is_in_progress, connect_failed, after_connect, after_reply};
 
 use call_places::{

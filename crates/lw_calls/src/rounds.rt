@@ -1,5 +1,5 @@
 //! The rounds of a wire between two stacks, as each side has them.
-ghost use Rattle.std.specs.Prelude.{◌≡◌, ◌∷◌, [], nat_le, IfOk};
+ghost use Rattle.std.specs.Prelude.{◌≡◌, ◌∷◌, [], false, nat_le, IfOk};
 ghost use Rattle.lw_calls.specs.Rounds.{is_same, first_half, has_tick, counts_on, comes_by, comes, rounds_on, made_one, ticks_or, round_over, past_sent, past_feed, come_asks, round_asks, came_by, after_over, after_come, round_fed, makes_core, after_round};
 
 use crate::answers::{feeding_of, number_of, reply_of, whether_of};
