@@ -27,7 +27,11 @@ pub enum Sight {
         octets: Octets,
     },
     /// The number of an accepted connection.
-    Accepted { conn: u32, ticket: u32, fresh: u32 },
+    Accepted {
+        conn: u32,
+        ticket: u32,
+        fresh: u32,
+    },
     /// A connection's event word.
     Saw(u32, Word),
     /// How many ticks there were.
