@@ -9,6 +9,6 @@ returns g c =
     Prints-same c.whole_line.ensures
     (ap
     (λ n.
-        line
-        (Word (codes "dgram") ∷ Number c.args.conn ∷ Number c.args.ticket ∷ Address c.args.from.0 ∷ Number c.args.from.1.0 ∷ Number n
-        ∷ Hex c.args.octets.now ∷ [])) long)
+    line
+    (Word (codes "dgram") ∷ Number c.args.conn ∷ Number c.args.ticket ∷ Address c.args.from.0 ∷ Number c.args.from.1.0 ∷ Number n
+    ∷ Hex c.args.octets.now ∷ [])) long)
