@@ -1,12 +1,16 @@
 -- Lists of fields, as the printer is given them.
-use Rattle.std.proofs.Common.{ℕ, ◌≡◌, ◌≤◌, ◌==◌, Bool, true, false, not, ◌||◌, List, [], ◌∷◌, ◌++◌, length, map, codes, refl, sym, ap, ◌∙◌, arith, append_assoc, append-nil}
+use Rattle.std.proofs.Common.{ℕ, ◌≡◌, ◌+◌, ◌<◌, Bool, true, false, not, ◌||◌, List, [], ◌∷◌, ◌++◌, length, map, take, get_or, codes, refl, sym, ap, ◌∙◌, arith, append_assoc, append-nil}
 use Rattle.std.specs.List.{flat_map}
+use Rattle.std.proofs.lemmas.List.{get_or_default}
+use Rattle.lw_outside.specs.Sinks.{SinkSeen}
+use Rattle.lw_transcript.specs.Page.{PageSeen, Prints}
+use Rattle.lw_transcript.proofs.Printing.{Prints-each}
 use Rattle.std.proofs.lemmas.Grind.{flat_map-append}
 use Rattle.call_types.specs.declared.call.SelectItem.{SelectItem}
 use Rattle.lw_transcript.specs.declared.fields.Field.{Field as Given}
 use Rattle.lw_transcript.specs.Fields.{Field, Name, behind_text, field_text, line, or_dash, spaced, where_set}
 use Rattle.lw_transcript.specs.CallLines.{test_field, test_letter}
-use Rattle.lw_transcript.specs.Printed.{field_of, fields_of}
+use Rattle.lw_transcript.specs.Printed.{field_of, fields_of, is_nothing}
 
 -- a field that the printer is given, behind others
 abbrev pub given_text : Given → List ℕ
@@ -16,13 +20,13 @@ pub given_texts : (fs : List Given) → flat_map given_text fs ≡ flat_map behi
 given_texts [] = refl
 given_texts (f ∷ fs) = ap (λ (t : List ℕ). given_text f ++ t) (given_texts fs)
 
--- a list of no elements
-pub dash_none : (xs : List ℕ) → (length xs == 0) ≡ true → or_dash xs ≡ codes "-"
+-- an empty text
+pub dash_none : (xs : List ℕ) → is_nothing xs ≡ true → or_dash xs ≡ codes "-"
 dash_none [] e = refl
 dash_none (x ∷ xs) e = absurd (let no : false ≡ true = e in cc)
 
--- a list of some
-pub dash_some : (xs : List ℕ) → (length xs == 0) ≡ false → or_dash xs ≡ xs
+-- another
+pub dash_some : (xs : List ℕ) → is_nothing xs ≡ false → or_dash xs ≡ xs
 dash_some [] e = absurd (let no : true ≡ false = e in cc)
 dash_some (x ∷ xs) e = refl
 
@@ -52,7 +56,7 @@ seven_letters a b c d e f g =
 -- no letter stands where no flag does
 pub no_letters : (a b c d e f g : Bool)
     → not ((a || b || c) || d || (e || f || g))
-    ≡ (length (where_set a 87 ++ (where_set b 82 ++ (where_set c 69 ++ (where_set d 70 ++ (where_set e 67 ++ (where_set f 76 ++ (where_set g 73 ++ []))))))) == 0)
+    ≡ is_nothing (where_set a 87 ++ (where_set b 82 ++ (where_set c 69 ++ (where_set d 70 ++ (where_set e 67 ++ (where_set f 76 ++ (where_set g 73 ++ [])))))))
 no_letters true b c d e f g = refl
 no_letters false true c d e f g = refl
 no_letters false false true d e f g = refl
@@ -61,3 +65,10 @@ no_letters false false false false true f g = refl
 no_letters false false false false false true g = refl
 no_letters false false false false false false true = refl
 no_letters false false false false false false false = refl
+
+-- one field more is printed behind others
+pub Prints-field : {r s t : SinkSeen} {a b c : PageSeen} (fs : List Given) (i : ℕ) (d : Given) → i < length fs
+    → Prints r s a b (flat_map given_text (take i fs)) → Prints s t b c (given_text (get_or fs i d))
+    → Prints r t a c (flat_map given_text (take (i + 1) fs))
+Prints-field fs i d inside first second =
+    Prints-each given_text fs i (get_or fs i d) inside (get_or_default fs i d (get_or fs i d) inside) first second

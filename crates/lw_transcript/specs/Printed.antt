@@ -1,5 +1,5 @@
 -- The fields that the printer is given.
-use Rattle.std.specs.Prelude.{ℕ, ◌+◌, List, length, map}
+use Rattle.std.specs.Prelude.{ℕ, ◌+◌, Bool, true, false, List, [], ◌∷◌, length, map}
 use Rattle.lw_transcript.specs.Fields as spec
 use Rattle.lw_transcript.specs.declared.fields.Field.{Field}
 use Rattle.lw_transcript.specs.declared.fields.Field.TheVariants.{Word, Number, Name, Place, Address, Hex, Flags, Share}
@@ -18,3 +18,8 @@ field_of (Share free all) = spec.Share free all
 -- those of a list
 abbrev pub fields_of : List Field → List spec.Field
 fields_of fs = map field_of fs
+
+-- whether a text is empty
+abbrev pub is_nothing : List ℕ → Bool
+is_nothing [] = true
+is_nothing (x ∷ xs) = false

@@ -11,6 +11,7 @@ use crate::fields::{Field, behind, whole_line};
 use crate::page::Page;
 use crate::{ActorPart, CallPart, Evidence};
 use call_types::{DropCause, Outcome, SelectItem, Sight, Test};
+use lw_base::{Ip, Port};
 use lw_events::Handle;
 use lw_outside::Sink;
 
@@ -76,15 +77,23 @@ fn evidence_line<K: Sink>(page: &mut Page, sink: &mut K, evidence: &Evidence)
     ensures { Prints (K.seen sink.old) (K.seen sink.new) page.old page.new (evidence_text evidence.now) }
 {
     match evidence {
-        Evidence::At(number) => whole_line(page, sink, &[Field::Name("@", *number)]),
+        Evidence::At(number) => at_line(page, sink, *number),
         Evidence::Saw(sight) => sight_line(page, sink, sight),
     }
+}
+
+fn at_line<K: Sink>(page: &mut Page, sink: &mut K, number: u32)
+    ensures { Prints (K.seen sink.old) (K.seen sink.new) page.old page.new (evidence_text (Evidence.At number)) }
+{
+    page.text(sink, "@");
+    page.number(sink, number as u64);
+    page.text(sink, "\n");
 }
 
 fn sight_line<K: Sink>(page: &mut Page, sink: &mut K, sight: &Sight)
     ensures { Prints (K.seen sink.old) (K.seen sink.new) page.old page.new (line (sight_fields sight.now)) }
 {
-    use Field::{Address, Flags, Hex, Name, Number, Place, Word};
+    use Field::{Flags, Hex, Name, Number, Place, Word};
     match sight {
         Sight::Take {
             conn,
@@ -97,14 +106,8 @@ fn sight_line<K: Sink>(page: &mut Page, sink: &mut K, sight: &Sight)
             whole_line(
                 page,
                 sink,
-                &[
-                    Word("take"),
-                    Number(*conn),
-                    Number(*ticket),
-                    Number(*from),
-                    to,
-                    octets,
-                ],
+                "take",
+                &[Number(*conn), Number(*ticket), Number(*from), to, octets],
             )
         }
         Sight::Datagram {
@@ -113,24 +116,7 @@ fn sight_line<K: Sink>(page: &mut Page, sink: &mut K, sight: &Sight)
             ip,
             port,
             octets,
-        } => {
-            let port = Number(port.0 as u32);
-            let to = Place(0, octets.as_slice());
-            let octets = Hex(octets.as_slice());
-            whole_line(
-                page,
-                sink,
-                &[
-                    Word("dgram"),
-                    Number(*conn),
-                    Number(*ticket),
-                    Address(*ip),
-                    port,
-                    to,
-                    octets,
-                ],
-            )
-        }
+        } => datagram_line(page, sink, *conn, *ticket, (*ip, *port), octets.as_slice()),
         Sight::Accepted {
             conn,
             ticket,
@@ -138,23 +124,24 @@ fn sight_line<K: Sink>(page: &mut Page, sink: &mut K, sight: &Sight)
         } => whole_line(
             page,
             sink,
-            &[Word("acc"), Number(*conn), Number(*ticket), Number(*fresh)],
+            "acc",
+            &[Number(*conn), Number(*ticket), Number(*fresh)],
         ),
         Sight::Saw(conn, word) => whole_line(
             page,
             sink,
+            "saw",
             &[
-                Word("saw"),
                 Number(*conn),
                 Number(word.posted),
                 Number(word.claimed),
                 Flags(word.flags),
             ],
         ),
-        Sight::Ticks(n) => whole_line(page, sink, &[Word("ticks"), Number(*n)]),
-        Sight::Stopped => whole_line(page, sink, &[Word("stopped")]),
+        Sight::Ticks(n) => whole_line(page, sink, "ticks", &[Number(*n)]),
+        Sight::Stopped => page.text(sink, "stopped\n"),
         Sight::Count(signal, n) => {
-            whole_line(page, sink, &[Word("sig"), Name("s", *signal), Number(*n)])
+            whole_line(page, sink, "sig", &[Name("s", *signal), Number(*n)])
         }
         Sight::Var(var, handle) => var_line(page, sink, *var, *handle),
         Sight::Fdw {
@@ -165,8 +152,8 @@ fn sight_line<K: Sink>(page: &mut Page, sink: &mut K, sight: &Sight)
         } => whole_line(
             page,
             sink,
+            "fdw",
             &[
-                Word("fdw"),
                 Number(*fd),
                 Number(*conn),
                 Number(*nonblock as u32),
@@ -176,9 +163,31 @@ fn sight_line<K: Sink>(page: &mut Page, sink: &mut K, sight: &Sight)
         Sight::Dropped(frame, cause) => whole_line(
             page,
             sink,
-            &[Word("drop"), Number(*frame), Word(cause_text(*cause))],
+            "drop",
+            &[Number(*frame), Word(cause_text(*cause))],
         ),
     }
+}
+
+fn datagram_line<K: Sink>(
+    page: &mut Page,
+    sink: &mut K,
+    conn: u32,
+    ticket: u32,
+    from: (Ip, Port),
+    octets: &[u8],
+)
+    ensures { Prints (K.seen sink.old) (K.seen sink.new) page.old page.new (line (sight_fields (Sight.Datagram conn ticket from.0 from.1 octets.now))) }
+{
+    let fields = [
+        Field::Number(conn),
+        Field::Number(ticket),
+        Field::Address(from.0),
+        Field::Number(from.1.0 as u32),
+        Field::Place(0, octets),
+        Field::Hex(octets),
+    ];
+    whole_line(page, sink, "dgram", &fields);
 }
 
 fn var_line<K: Sink>(page: &mut Page, sink: &mut K, var: u32, handle: Option<Handle>)

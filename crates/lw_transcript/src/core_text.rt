@@ -65,10 +65,7 @@ fn event<K: Sink>(page: &mut Page, sink: &mut K, event: &EventText)
                 &[Word("write"), Number(*conn), Hex(octets.as_slice())],
             )
         }
-        Event::SendTo(conn, ip, port, octets) => {
-            addressed(page, sink, "sendto", *conn, *ip, *port);
-            send_data(page, sink, octets);
-        }
+        Event::SendTo(conn, ip, port, octets) => send_to(page, sink, *conn, *ip, *port, octets),
         Event::Recved(conn, n) => behind(page, sink, &[Word("recved"), Number(*conn), Number(*n)]),
         Event::Shutdown(conn) => behind(page, sink, &[Word("shutdown"), Number(*conn)]),
         Event::Close(conn) => behind(page, sink, &[Word("close"), Number(*conn)]),
@@ -88,15 +85,9 @@ fn event<K: Sink>(page: &mut Page, sink: &mut K, event: &EventText)
             )
         }
         Event::OpenFd(conn) => behind(page, sink, &[Word("openfd"), Number(*conn)]),
-        Event::SetFd(fd, option) => {
-            behind(page, sink, &[Word("setfd"), Number(*fd)]);
-            fd_option(page, sink, *option);
-        }
+        Event::SetFd(fd, option) => set_fd(page, sink, *fd, *option),
         Event::CloseFd(fd) => behind(page, sink, &[Word("closefd"), Number(*fd)]),
-        Event::SetVar(var, handle) => {
-            behind(page, sink, &[Word("setvar"), Field::Name("v", *var)]);
-            handle_part(page, sink, *handle);
-        }
+        Event::SetVar(var, handle) => set_var(page, sink, *var, *handle),
         Event::Signal(signal) => behind(page, sink, &[Word("signal"), Field::Name("s", *signal)]),
         Event::Sent(n) => behind(page, sink, &[Word("sent"), Number(*n)]),
         Event::Stop => behind(page, sink, &[Word("stop")]),
@@ -120,6 +111,27 @@ fn addressed<K: Sink>(
         Field::Number(port.0 as u32),
     ];
     behind(page, sink, &fields);
+}
+
+fn send_to<K: Sink>(page: &mut Page, sink: &mut K, conn: u32, ip: Ip, port: Port, given: &SendData)
+    ensures { Prints (K.seen sink.old) (K.seen sink.new) page.old page.new (flat_map behind_text (event_fields (Event.SendTo conn ip port given.now))) }
+{
+    addressed(page, sink, "sendto", conn, ip, port);
+    send_data(page, sink, given);
+}
+
+fn set_fd<K: Sink>(page: &mut Page, sink: &mut K, fd: u32, option: FdOption)
+    ensures { Prints (K.seen sink.old) (K.seen sink.new) page.old page.new (flat_map behind_text (event_fields (Event.SetFd fd option))) }
+{
+    behind(page, sink, &[Field::Word("setfd"), Field::Number(fd)]);
+    fd_option(page, sink, option);
+}
+
+fn set_var<K: Sink>(page: &mut Page, sink: &mut K, var: u32, handle: Handle)
+    ensures { Prints (K.seen sink.old) (K.seen sink.new) page.old page.new (flat_map behind_text (event_fields (Event.SetVar var handle))) }
+{
+    behind(page, sink, &[Field::Word("setvar"), Field::Name("v", var)]);
+    handle_part(page, sink, handle);
 }
 
 fn send_data<K: Sink>(page: &mut Page, sink: &mut K, given: &SendData)
@@ -226,7 +238,7 @@ fn post_line<K: Sink>(page: &mut Page, sink: &mut K, post: &Post)
 {
     match post {
         Post::Item { conn, ticket, text } => item_line(page, sink, *conn, *ticket, text),
-        Post::Full(conn) => whole_line(page, sink, &[Field::Word("full"), Field::Number(*conn)]),
+        Post::Full(conn) => whole_line(page, sink, "full", &[Field::Number(*conn)]),
     }
 }
 
@@ -242,18 +254,28 @@ fn item_line<K: Sink>(page: &mut Page, sink: &mut K, conn: u32, ticket: u32, tex
 fn item<K: Sink>(page: &mut Page, sink: &mut K, item: &ItemText)
     ensures { Prints (K.seen sink.old) (K.seen sink.new) page.old page.new (flat_map behind_text (item_fields item.now)) }
 {
-    use Field::{Address, Number, Place, Word};
+    use Field::{Number, Place, Word};
     match item {
         ItemText::Segment(octets) => {
             behind(page, sink, &[Word("segment"), Place(0, octets.as_slice())])
         }
         ItemText::Datagram(ip, port, octets) => {
-            let port = Number(port.0 as u32);
-            let length = Place(0, octets.as_slice());
-            behind(page, sink, &[Word("datagram"), Address(*ip), port, length])
+            datagram(page, sink, *ip, *port, octets.as_slice())
         }
         ItemText::Accepted(conn) => behind(page, sink, &[Word("conn"), Number(*conn)]),
     }
+}
+
+fn datagram<K: Sink>(page: &mut Page, sink: &mut K, ip: Ip, port: Port, octets: &[u8])
+    ensures { Prints (K.seen sink.old) (K.seen sink.new) page.old page.new (flat_map behind_text (item_fields (ItemText.Datagram ip port octets.now))) }
+{
+    let fields = [
+        Field::Word("datagram"),
+        Field::Address(ip),
+        Field::Number(port.0 as u32),
+        Field::Place(0, octets),
+    ];
+    behind(page, sink, &fields);
 }
 
 fn out_part<K: Sink>(page: &mut Page, sink: &mut K, outs: &[Octets])
@@ -267,5 +289,5 @@ fn out_part<K: Sink>(page: &mut Page, sink: &mut K, outs: &[Octets])
 fn out_line<K: Sink>(page: &mut Page, sink: &mut K, octets: &[u8])
     ensures { Prints (K.seen sink.old) (K.seen sink.new) page.old page.new (out_text octets.now) }
 {
-    whole_line(page, sink, &[Field::Word("out"), Field::Hex(octets)]);
+    whole_line(page, sink, "out", &[Field::Hex(octets)]);
 }

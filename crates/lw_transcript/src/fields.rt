@@ -1,17 +1,17 @@
 //! The fields of a line, as they are printed.
-ghost use Rattle.std.specs.Prelude.{◌≡◌, ◌==◌, ◌++◌, [], ◌∷◌, codes, decimal, length};
+ghost use Rattle.std.specs.Prelude.{◌≡◌, ◌++◌, [], ◌∷◌, codes, decimal};
 ghost use Rattle.std.specs.List.{flat_map};
 ghost use Rattle.lw_base.specs.EventWord.{is_set};
 ghost use Rattle.lw_transcript.specs.Page.{Prints};
-ghost use Rattle.lw_transcript.specs.Fields.{behind_text, field_text, flag_letters, ip_text, letter_of, line, or_dash, spaced, where_set};
-ghost use Rattle.lw_transcript.specs.Printed.{field_of, fields_of};
+ghost use Rattle.lw_transcript.specs.Fields.{behind_text, field_text, flag_letters, ip_text, letter_of, line, or_dash, where_set, Word as WordText};
+ghost use Rattle.lw_transcript.specs.Printed.{field_of, fields_of, is_nothing};
 
 use crate::page::Page;
 use lw_base::{Flag, Ip, Word};
 use lw_outside::Sink;
 
 /// A field of a line.
-#[derive(Clone, Copy)]
+#[derive(Drop)]
 pub enum Field<'a> {
     Word(&'static str),
     Number(u32),
@@ -25,23 +25,13 @@ pub enum Field<'a> {
     Share(u32, u32),
 }
 
-/// Prints a line of these fields.
-pub fn whole_line<K: Sink>(page: &mut Page, sink: &mut K, fields: &[Field])
-    ensures { Prints (K.seen sink.old) (K.seen sink.new) page.old page.new (line (fields_of fields.now)) }
+/// Prints a line of a word and these fields.
+pub fn whole_line<K: Sink>(page: &mut Page, sink: &mut K, word: &str, fields: &[Field])
+    ensures { Prints (K.seen sink.old) (K.seen sink.new) page.old page.new (line (WordText word.now ∷ fields_of fields.now)) }
 {
-    apart(page, sink, fields);
+    page.text(sink, word);
+    behind(page, sink, fields);
     page.text(sink, "\n");
-}
-
-/// Prints these fields, one space apart.
-fn apart<K: Sink>(page: &mut Page, sink: &mut K, fields: &[Field])
-    ensures { Prints (K.seen sink.old) (K.seen sink.new) page.old page.new (spaced (fields_of fields.now)) }
-{
-    let [first, rest @ ..] = fields else {
-        return;
-    };
-    print_field(page, sink, first);
-    behind(page, sink, rest);
 }
 
 /// Prints these fields behind others.
@@ -114,11 +104,11 @@ fn flags<K: Sink>(page: &mut Page, sink: &mut K, bits: u8)
 
 /// Whether no flag stands.
 fn has_none(word: Word) -> bool
-    ensures { result ≡ (length (flag_letters word.flags) == 0) }
+    ensures { result ≡ is_nothing (flag_letters word.flags) }
 {
-    let low = word.has(Flag::Writable) || word.has(Flag::Rest) || word.has(Flag::Ended);
-    let high = word.has(Flag::Closed) || word.has(Flag::Listen) || word.has(Flag::Idle);
-    !(low || word.has(Flag::Fault) || high)
+    let low = word.has(Flag::Writable) | word.has(Flag::Rest) | word.has(Flag::Ended);
+    let high = word.has(Flag::Closed) | word.has(Flag::Listen) | word.has(Flag::Idle);
+    !(low | word.has(Flag::Fault) | high)
 }
 
 fn letters<K: Sink>(page: &mut Page, sink: &mut K, word: Word)

@@ -3,14 +3,13 @@ ghost use Rattle.std.specs.List.{flat_map};
 ghost use Rattle.lw_outside.specs.Sinks.{Adds};
 ghost use Rattle.lw_transcript.specs.Page.{Breaks, Prints};
 ghost use Rattle.lw_transcript.specs.Fields.{behind_text};
-ghost use Rattle.lw_transcript.specs.Printed.{field_of};
-ghost use Rattle.lw_transcript.specs.Transcript.{IsTranscript, body_text, end_text, form_name, form_text, head_text, left_text, pools_fields, share_field, side_text, sizes_text, transcript_spelling, version_text};
+ghost use Rattle.lw_transcript.specs.Transcript.{IsTranscript, body_text, end_text, form_name, form_text, head_text, left_text, pools_fields, side_text, sizes_text, transcript_spelling, version_text};
 
 use crate::call_text::actors_part;
 use crate::core_text::core_part;
 use crate::fields::{Field, behind, whole_line};
 use crate::page::{Page, WriteFault};
-use crate::{Body, EndLine, Form, Left, Pools, Share, Sizes, Transcript, Version};
+use crate::{Body, EndLine, Form, Left, Pools, Sizes, Transcript, Version};
 use lw_outside::Sink;
 use std::alloc::Global;
 
@@ -49,7 +48,7 @@ fn head_line<K: Sink>(page: &mut Page, sink: &mut K, version: Version, form: &Fo
 {
     let version = Field::Word(version_word(version));
     let form = Field::Word(form_word(form));
-    whole_line(page, sink, &[Field::Word("lwip"), version, form]);
+    whole_line(page, sink, "lwip", &[version, form]);
 }
 
 fn version_word(version: Version) -> &'static str
@@ -93,7 +92,7 @@ fn pair<K: Sink>(page: &mut Page, sink: &mut K, a: &Body, b: &Body)
 fn side_line<K: Sink>(page: &mut Page, sink: &mut K, side: &'static str)
     ensures { Prints (K.seen sink.old) (K.seen sink.new) page.old page.new (side_text side.now) }
 {
-    whole_line(page, sink, &[Field::Word("side"), Field::Word(side)]);
+    whole_line(page, sink, "side", &[Field::Word(side)]);
 }
 
 fn body<K: Sink>(page: &mut Page, sink: &mut K, body: &Body)
@@ -109,8 +108,9 @@ fn body<K: Sink>(page: &mut Page, sink: &mut K, body: &Body)
 fn sizes_part<K: Sink>(page: &mut Page, sink: &mut K, sizes: Option<Sizes>)
     ensures { Prints (K.seen sink.old) (K.seen sink.new) page.old page.new (flat_map sizes_text (option_to_list sizes)) }
 {
-    if let Some(sizes) = sizes {
-        sizes_line(page, sink, sizes);
+    match sizes {
+        Some(sizes) => sizes_line(page, sink, sizes),
+        None => {}
     }
 }
 
@@ -119,7 +119,6 @@ fn sizes_line<K: Sink>(page: &mut Page, sink: &mut K, sizes: Sizes)
 {
     use Field::{Number, Word};
     let fields = [
-        Word("sizes"),
         Word("ram"),
         Number(sizes.ram),
         Word("pool"),
@@ -137,7 +136,7 @@ fn sizes_line<K: Sink>(page: &mut Page, sink: &mut K, sizes: Sizes)
         Word("window"),
         Number(sizes.window),
     ];
-    whole_line(page, sink, &fields);
+    whole_line(page, sink, "sizes", &fields);
 }
 
 fn left_part<K: Sink>(page: &mut Page, sink: &mut K, left: &[Left])
@@ -151,14 +150,9 @@ fn left_part<K: Sink>(page: &mut Page, sink: &mut K, left: &[Left])
 fn left_line<K: Sink>(page: &mut Page, sink: &mut K, left: Left)
     ensures { Prints (K.seen sink.old) (K.seen sink.new) page.old page.new (left_text left) }
 {
-    use Field::{Number, Word};
-    let fields = [
-        Word("left"),
-        Number(left.conn),
-        Number(left.ticket),
-        Number(left.from),
-    ];
-    whole_line(page, sink, &fields);
+    use Field::Number;
+    let fields = [Number(left.conn), Number(left.ticket), Number(left.from)];
+    whole_line(page, sink, "left", &fields);
 }
 
 fn end_line<K: Sink>(page: &mut Page, sink: &mut K, end: EndLine)
@@ -178,8 +172,9 @@ fn end_line<K: Sink>(page: &mut Page, sink: &mut K, end: EndLine)
 fn pools_part<K: Sink>(page: &mut Page, sink: &mut K, pools: Option<Pools>)
     ensures { Prints (K.seen sink.old) (K.seen sink.new) page.old page.new (flat_map behind_text (pools_fields pools)) }
 {
-    if let Some(pools) = pools {
-        told_pools(page, sink, pools);
+    match pools {
+        Some(pools) => told_pools(page, sink, pools),
+        None => {}
     }
 }
 
@@ -190,19 +185,13 @@ fn told_pools<K: Sink>(page: &mut Page, sink: &mut K, pools: Pools)
     let fields = [
         Word("pools"),
         Word("ram"),
-        share(pools.ram),
+        Field::Share(pools.ram.free, pools.ram.all),
         Word("pool"),
-        share(pools.pool),
+        Field::Share(pools.pool.free, pools.pool.all),
         Word("rom"),
-        share(pools.rom),
+        Field::Share(pools.rom.free, pools.rom.all),
         Word("ref"),
-        share(pools.reference),
+        Field::Share(pools.reference.free, pools.reference.all),
     ];
     behind(page, sink, &fields);
-}
-
-fn share(share: Share) -> Field<'static>
-    ensures { field_of result ≡ share_field share }
-{
-    Field::Share(share.free, share.all)
 }
