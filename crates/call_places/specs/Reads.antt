@@ -117,7 +117,7 @@ wants_more Item got count = false
 abbrev pub read_so_far : Bool → Reading → Timing → ℕ → List Seen → Step
 read_so_far true reading timing got lines =
     to (waiting (Read (record { conn = reading.conn; kind = reading.kind; count = reading.count; got = got }))
-              (record { limit = timing.limit; begun = timing.begun; due = due_again timing.due })) lines
+    (record { limit = timing.limit; begun = timing.begun; due = due_again timing.due })) lines
 read_so_far false reading timing got lines = ends (ReadOutcome got) lines
 
 -- a receive has so many octets more

@@ -86,9 +86,10 @@ ready_with false ready item = ready
 -- a scan with the look at one more target
 abbrev pub scanned : Scan → ScanTarget → Word → Scan
 scanned scan target word = record {
-    targets = scan.targets;
-    shown = scan.shown ++ Sight (Saw target.conn word) ∷ [];
-    ready = ready_with (holds target.item.test word) scan.ready target.item }
+  targets = scan.targets;
+  shown = scan.shown ++ Sight (Saw target.conn word) ∷ [];
+  ready = ready_with (holds target.item.test word) scan.ready target.item;
+}
 
 -- a whole scan ends the select where items hold
 abbrev pub scan_over : Bool → Scan → Timing → Step

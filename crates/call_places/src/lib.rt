@@ -21,9 +21,9 @@ pub use lines::{
     stray, to, with_core,
 };
 pub use place::{
-    Accepting, Awaiting, Caller, Due, FdUse, Place, ReadKind, Reading, RoundStage, Rounds, RoundsEnd, Scan,
-    ScanTarget, Seen, SeenList, Selecting, Sending, Stage, Step, Target, TargetList, Then, Timing,
-    Use, VarUse, Want,
+    Accepting, Awaiting, Caller, Due, FdUse, Place, ReadKind, Reading, RoundStage, Rounds,
+    RoundsEnd, Scan, ScanTarget, Seen, SeenList, Selecting, Sending, Stage, Step, Target,
+    TargetList, Then, Timing, Use, VarUse, Want,
 };
 pub use reads::{after_accept, after_connect_look, after_count, after_read, read_more};
 pub use scanning::{after_scan, see_next, selects, with_target};

@@ -245,7 +245,11 @@ pub enum Place {
     /// It looks at a variable.
     Var(u32, VarUse),
     /// It looks at the descriptor that a variable names.
-    Fd { var: u32, fd: u32, used: FdUse },
+    Fd {
+        var: u32,
+        fd: u32,
+        used: FdUse,
+    },
     /// The core makes an event of it; the lines that are held stand together with that event's.
     Make {
         event: EventText,

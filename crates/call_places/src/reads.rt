@@ -134,7 +134,12 @@ fn connect_looks(
         (false, true, _) => asks_fault(alloc, conn, 0, word),
         (false, false, true) => Ok(ends(Outcome::Ok, saw(alloc, conn, word)?)),
         (false, false, false) => {
-            vain(alloc, Want::Connected(conn), timing, saw(alloc, conn, word)?)
+            vain(
+                alloc,
+                Want::Connected(conn),
+                timing,
+                saw(alloc, conn, word)?,
+            )
         }
     }
 }
@@ -207,10 +212,7 @@ pub fn after_accept(
             ticket,
             from,
             octets,
-        } => Ok(fails(
-            Err::Val,
-            took(alloc, accepting.conn, ticket, from, octets)?,
-        )),
+        } => Ok(fails(Err::Val, took(alloc, accepting.conn, ticket, from, octets)?)),
         Piece::Datagram {
             ticket,
             ip,

@@ -59,10 +59,7 @@ fn limited(limit: u32) -> Timing
 fn scans(alloc: Global, limit: Option<u32>, targets: TargetList) -> Place
     ensures { result ≡ scans limit targets }
 {
-    waiting(
-        Want::Scan(unscanned(alloc, targets)),
-        select_timing(limit),
-    )
+    waiting(Want::Scan(unscanned(alloc, targets)), select_timing(limit))
 }
 
 /// The next item is looked up, or all are and the scan begins.
@@ -95,11 +92,7 @@ fn looks_up(alloc: Global, selecting: Selecting, next: Option<SelectItem>) -> Pl
 }
 
 /// An item's connection is known.
-pub fn with_target(
-    selecting: Selecting,
-    item: SelectItem,
-    conn: u32,
-) -> Result<Selecting, NoMemory>
+pub fn with_target(selecting: Selecting, item: SelectItem, conn: u32) -> Result<Selecting, NoMemory>
     ensures { IfOk result (λ s. s ≡ with_target selecting item conn) }
 {
     let mut targets = selecting.targets.into_vec();
@@ -168,12 +161,7 @@ fn unscanned(alloc: Global, targets: TargetList) -> Scan
 }
 
 /// A whole scan ends the select where items hold.
-fn scan_over(
-    alloc: Global,
-    none: bool,
-    scan: Scan,
-    timing: Timing,
-) -> Result<Step, NoMemory>
+fn scan_over(alloc: Global, none: bool, scan: Scan, timing: Timing) -> Result<Step, NoMemory>
     ensures { IfOk result (λ s. s ≡ scan_over none scan timing) }
 {
     match none {
@@ -200,12 +188,7 @@ fn scan_on(alloc: Global, scan: Scan, timing: Timing) -> Result<Step, NoMemory>
 }
 
 /// What a scan's look leads to.
-pub fn after_scan(
-    alloc: Global,
-    scan: Scan,
-    timing: Timing,
-    word: Word,
-) -> Result<Step, NoMemory>
+pub fn after_scan(alloc: Global, scan: Scan, timing: Timing, word: Word) -> Result<Step, NoMemory>
     ensures { IfOk result (λ s. s ≡ after_scan scan timing word) }
 {
     match next_target(&scan) {

@@ -15,7 +15,11 @@ use std::alloc::{AllocError, Global};
 fn sent_or(sent: u32, outcome: Outcome) -> Outcome
     ensures { result ≡ sent_or sent outcome }
 {
-    if sent == 0 { outcome } else { Outcome::Sent(sent) }
+    if sent == 0 {
+        outcome
+    } else {
+        Outcome::Sent(sent)
+    }
 }
 
 /// The octets behind the first n are left.
@@ -85,10 +89,7 @@ fn would_block(
         Some(Due::AtOnce) => Ok(blocked(sending.sent, lines)),
         Some(Due::Stopped) => {
             let ended = sent_or(sending.sent, Outcome::Fail(Err::Abrt));
-            Ok(ends(
-                ended,
-                joined(one_sight(alloc, Sight::Stopped)?, lines)?,
-            ))
+            Ok(ends(ended, joined(one_sight(alloc, Sight::Stopped)?, lines)?))
         }
         Some(Due::Time(_)) => Ok(blocked(sending.sent, lines)),
         Some(Due::GivenUp) => Ok(blocked(sending.sent, lines)),

@@ -47,7 +47,11 @@ pub fn due_of(nonblock: bool) -> Option<Due>
 pub fn read_end(got: u32, outcome: Outcome) -> Outcome
     ensures { result ≡ read_end got outcome }
 {
-    if got == 0 { outcome } else { Outcome::Read(got) }
+    if got == 0 {
+        outcome
+    } else {
+        Outcome::Read(got)
+    }
 }
 
 /// Whether a try may be several looks.
@@ -92,12 +96,7 @@ fn last_of(want: &Want, due: Due) -> Outcome
 }
 
 /// The ticks that ended a wait; a scan's first look at them is written with the last.
-fn time_lines(
-    alloc: Global,
-    scan: bool,
-    begun: Option<u32>,
-    now: u32,
-) -> Result<SeenList, NoMemory>
+fn time_lines(alloc: Global, scan: bool, begun: Option<u32>, now: u32) -> Result<SeenList, NoMemory>
     ensures { IfOk result (λ lines. lines ≡ time_lines scan begun now) }
 {
     match (scan, begun) {
@@ -111,12 +110,7 @@ fn time_lines(
 }
 
 /// The lines of the look that made a wait due.
-fn due_lines(
-    alloc: Global,
-    scan: bool,
-    begun: Option<u32>,
-    due: Due,
-) -> Result<SeenList, NoMemory>
+fn due_lines(alloc: Global, scan: bool, begun: Option<u32>, due: Due) -> Result<SeenList, NoMemory>
     ensures { IfOk result (λ lines. lines ≡ due_lines scan begun due) }
 {
     match due {
@@ -174,10 +168,7 @@ pub(crate) fn goes_on(alloc: Global, want: Want, timing: Timing) -> Step
         begun: timing.begun,
         due: None,
     };
-    to(
-        Place::Waits(stage, want, timing),
-        no_lines(alloc),
-    )
+    to(Place::Waits(stage, want, timing), no_lines(alloc))
 }
 
 /// A try found nothing: where the wait is due it ends, with these lines of the try.
@@ -209,12 +200,7 @@ fn begin_lines(alloc: Global, scan: bool, begun: u32) -> Result<SeenList, NoMemo
 }
 
 /// The wait begins at so many ticks.
-pub fn after_begin(
-    alloc: Global,
-    want: Want,
-    timing: Timing,
-    now: u32,
-) -> Result<Step, NoMemory>
+pub fn after_begin(alloc: Global, want: Want, timing: Timing, now: u32) -> Result<Step, NoMemory>
     ensures { IfOk result (λ s. s ≡ after_begin want timing now) }
 {
     let lines = begin_lines(alloc, is_scan(&want), now)?;
