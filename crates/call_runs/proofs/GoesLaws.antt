@@ -73,3 +73,13 @@ step_made gives actor s t place before now asked answer made is given fitting le
   led = ap (λ (m : Step). m.next) led;
   wrote = wrote ∙ ap (λ (m : Step). before ++ m.wrote) led;
 }
+
+-- the same where the step began at a place that is this one
+pub goes_more_from : {S : Type 0} (gives : S → ℕ → Ask → Answer → S → Type 0) (actor : ℕ) (s t u : S) (place at from to : Place) (before now later : List Seen) → from ≡ at → Goes gives actor s place before now t at → Steps gives actor t from now later u to → Goes gives actor s place before later u to
+goes_more_from {S = S} gives actor s t u place at from to before now later is g step =
+    goes_more gives actor s t u place at to before now later g (subst (λ (p : Place). Steps gives actor t p now later u to) is step)
+
+-- a call was made that went on from where it begins
+pub call_made_from : {S : Type 0} (gives : S → ℕ → Ask → Answer → S → Type 0) (actor : ℕ) (caller : Caller) (s t : S) (place : Place) (call : Call) (before now : List Seen) (result : Outcome) → place ≡ begins caller call → Goes gives actor s place before now t (Done result) → WasMade caller call before now result
+call_made_from {S = S} gives actor caller s t place call before now result is g =
+    call_made gives actor caller s t call before now result (subst (λ (p : Place). Goes gives actor s p before now t (Done result)) is g)

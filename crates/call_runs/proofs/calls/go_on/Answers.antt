@@ -5,4 +5,4 @@ pub loop-init : goal.loop-init
 loop-init g c = goes_none _ _ _ _ _
 
 pub loop-preserved : goal.loop-preserved
-loop-preserved g c = goes_more _ _ _ _ _ _ _ _ _ _ _ c.loop.invariant c.in_ok-at.ensures
+loop-preserved g c = goes_more _ _ _ _ _ _ _ _ _ _ _ c.loop.invariant c.in_ok-step_on.ensures
