@@ -16,7 +16,7 @@ use Rattle.lw_tcpip.specs.declared.reply.LineKey.{LineKey}
 use Rattle.lw_tcpip.specs.Tasks.{is_call, frames_of, calls_in}
 use Rattle.lw_tcpip.specs.Replies.{IsMadeOf, IsAnswer, Answers}
 use Rattle.lw_tcpip.proofs.Lists.{same_end}
-use Rattle.lw_tcpip.proofs.Lines.{frames-call}
+use Rattle.lw_tcpip.proofs.LineSteps.{frames-call}
 use Rattle.lw_tcpip.proofs.Seats.{taken-call}
 
 module _ {C V : Type 0} where
@@ -45,6 +45,12 @@ module _ {O E S T V R : Type 0} (state : O → S) (tag : O → T) (by : E → �
     pub fed_to : number ≡ 0 → IsMadeOf (tells (tag key.mbox.value.key.lock.value.start)) (made_by by key.mbox.value.key.server r.caller.seen) (frames_of sent) r.lost
     fed_to first = subst (λ (l : List V). IsMadeOf (tells (tag key.mbox.value.key.lock.value.start)) (made_by by key.mbox.value.key.server r.caller.seen) l r.lost)
         (ap (λ (k : ℕ). frames_of (sent_by k r.note.given)) (sym first) ∙ (ap frames_of given_whole ∙ frames-call sent number c v)) h.fed
+
+    -- the same by what the line knows of the mailbox
+    pub told : (terms : Service (Begun O)) → key.mbox.value.key ≡ terms → IsAnswer state tag by same tells steps terms.lock.value.start c v r.caller r.result
+        × (number ≡ 0 → IsMadeOf (tells (tag terms.lock.value.start)) (made_by by terms.server r.caller.seen) (frames_of sent) r.lost)
+    told terms is = subst (λ (s : Service (Begun O)). IsAnswer state tag by same tells steps s.lock.value.start c v r.caller r.result
+        × (number ≡ 0 → IsMadeOf (tells (tag s.lock.value.start)) (made_by by s.server r.caller.seen) (frames_of sent) r.lost)) is (answer_to, fed_to)
 
   -- what the server gives is a reply to the question that it took
   pub answers_made : (key : LineKey (Named (Service (Begun O)))) (terms : Service (Begun O)) (start : O) (n count line : ℕ) (given : List (Letter (Task (Known O E) V))) (c : Known O E) (v : V) (back : Known O E) (result : Result R (AllocError × V))

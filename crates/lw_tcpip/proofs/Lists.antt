@@ -1,5 +1,6 @@
 -- Lists read and written at a place, and beginnings of lists.
-use Rattle.std.proofs.Common.{◌≡◌, ◌≢◌, ◌⊎◌, inl, inr, ℕ, zero, suc, ◌+◌, ◌<◌, ◌≤◌, List, [], ◌∷◌, ◌++◌, length, Option, Some, None, slice_get, slice_set, refl, ap, sym, ◌∙◌, subst, cond, count_by, list_any, ◌||◌, Bool, true, false, arith, append_assoc}
+use Rattle.std.proofs.Common.{◌≡◌, ◌≢◌, ◌⊎◌, inl, inr, ℕ, zero, suc, ◌+◌, ◌<◌, ◌≤◌, List, [], ◌∷◌, ◌++◌, length, Option, Some, None, slice_get, slice_set, refl, ap, sym, ◌∙◌, subst, cond, count_by, ◌||◌, Bool, true, false, arith, append_assoc}
+use Rattle.std.specs.List.{list_any}
 use Rattle.std.proofs.lemmas.List.Sums.{sum_by-cons, sum_by-append}
 use Rattle.std.proofs.lemmas.List.Folds.{list_any-append}
 use mathlib.Core.List.{IsPrefix}
@@ -20,7 +21,7 @@ or_right true b e = absurd (not_both (sym e))
 or_right false b e = e
 
 module _ {X : Type 0} where
-  some_same : (x y : X) → Some x ≡ Some y → x ≡ y
+  pub some_same : (x y : X) → Some x ≡ Some y → x ≡ y
   some_same x y e = cc
 
   no_some : (y : X) → None ≡ Some y → ⊥

@@ -1,6 +1,7 @@
 -- What holds of the server after each message.
 use Rattle.std.proofs.Common.{◌≡◌, ◌≢◌, ℕ, ◌+◌, ◌<◌, ◌≤◌, All, List, [], ◌∷◌, ◌++◌, length, slice_get, slice_set, Option, Some, Bool, true, false, ◌||◌, refl, ap, sym, ◌∙◌, subst, arith, get_or, length-set}
 use Rattle.std.proofs.lemmas.Option.{get_or_from_slice_get}
+use Rattle.std.proofs.lemmas.List.Folds.{list_any-append}
 use mathlib.Core.Logic.{dite}
 use mathlib.Core.List.{IsPrefix}
 use native.Mathlib.Decide.{ℕ_discrete}
@@ -17,7 +18,7 @@ use Rattle.lw_tcpip.specs.declared.reply.LineKey.{LineKey}
 use Rattle.lw_tcpip.specs.Tasks.{is_leave, frames_of, calls_in, has_left}
 use Rattle.lw_tcpip.specs.Tokens.{SeatSeen, answered, IsSeat, AreSeats, IsServer, IsLine}
 use Rattle.lw_tcpip.proofs.Lists.{get_set_same, get_set_other, get_within, whole_by, not_both, any-snoc}
-use Rattle.lw_tcpip.proofs.Lines.{frames-frame, frames-call, frames-leave, calls-frame, calls-call, calls-leave, left-frame, left-call, left-leave}
+use Rattle.lw_tcpip.proofs.LineSteps.{frames-frame, frames-call, frames-leave, calls-frame, calls-call, calls-leave, left-frame, left-call, left-leave}
 
 true_or : (a b : Bool) → a ≡ true → (a || b) ≡ true
 true_or a b e = ap (λ (x : Bool). x || b) e
@@ -31,9 +32,9 @@ module _ {C V : Type 0} where
 
 module _ {C V L : Type 0} (get : Receiver (Task C V) (Service L)) (seats : List (SeatSeen (LineKey (Named (Service L))))) (ended : Bool) (h : IsServer get seats ended) (n : ℕ) (low : n ≤ get.others) where
   -- the seat of the line n changed as its message says, and the others' lines sent nothing
-  seats_step : (m : Task C V) (s t : SeatSeen (LineKey (Named (Service L)))) → slice_get seats n ≡ Some s → IsSeat get.table get.key (get.given ++ letter n m ∷ []) n t → AreSeats get.table get.key (get.given ++ letter n m ∷ []) (slice_set seats n t)
+  seats_step : (m : Task C V) (s t : SeatSeen (LineKey (Named (Service L)))) → slice_get seats n ≡ Some s → IsSeat get.table get.key n (calls_in (sent_by n (get.given ++ letter n m ∷ []))) (has_left (sent_by n (get.given ++ letter n m ∷ []))) t → AreSeats get.table get.key (get.given ++ letter n m ∷ []) (slice_set seats n t)
   seats_step m s t at new line u found = dite (ℕ_discrete line n)
-      (λ is. subst (λ (k : ℕ). IsSeat get.table get.key (get.given ++ letter n m ∷ []) k u) (sym is) (subst (λ (v : SeatSeen (LineKey (Named (Service L)))). IsSeat get.table get.key (get.given ++ letter n m ∷ []) n v)
+      (λ is. subst (λ (k : ℕ). IsSeat get.table get.key k (calls_in (sent_by k (get.given ++ letter n m ∷ []))) (has_left (sent_by k (get.given ++ letter n m ∷ []))) u) (sym is) (subst (λ (v : SeatSeen (LineKey (Named (Service L)))). IsSeat get.table get.key n (calls_in (sent_by n (get.given ++ letter n m ∷ []))) (has_left (sent_by n (get.given ++ letter n m ∷ []))) v)
       (get_set_same seats t u n (subst (λ (k : ℕ). slice_get (slice_set seats n t) k ≡ Some u) is found)) new))
       (λ no. let old = h.each line u (get_set_other seats t u n line no found) in let same = sent_by-else line get.given (letter n m) (λ e. no (sym e)) in record {
       own = old.own;
@@ -104,3 +105,6 @@ module _ {C V : Type 0} where
   -- what was given of a line that has left is all that it put in
   pub gathered : (given : List (Letter (Task C V))) (n : ℕ) (sent before : List (Task C V)) (line : ℕ) → has_left (sent_by n given) ≡ true → IsPrefix (sent_by n given) sent → sent ≡ before ++ Leave line ∷ [] → has_left before ≡ false → sent_by n given ≡ sent
   gathered given n sent before line left p last none = whole_by is_leave (sent_by n given) before (Leave line) p.0 left none (p.1 ∙ last) ∙ sym last
+
+  pub gathered_line : (given : List (Letter (Task C V))) (n : ℕ) (sent : List (Task C V)) → has_left (sent_by n given) ≡ true → IsPrefix (sent_by n given) sent → (has_left sent ≡ true → (before : List (Task C V)) × (line : ℕ) × (sent ≡ before ++ Leave line ∷ []) × (has_left before ≡ false)) → sent_by n given ≡ sent
+  gathered_line given n sent left p last = let l = last (ap has_left (sym p.1) ∙ (list_any-append is_leave (sent_by n given) p.0 ∙ true_or (has_left (sent_by n given)) (has_left p.0) left)) in gathered given n sent l.0 l.1 left p l.2 l.3

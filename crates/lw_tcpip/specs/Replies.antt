@@ -1,6 +1,7 @@
 -- Replies: what they say of the question that they answer.
-use Rattle.std.specs.Prelude.{◌≡◌, ℕ, ◌<◌, Bool, MatchBool, AllZip, List, [], ◌∷◌, ◌++◌, length, Result, IfOk, IfErr}
+use Rattle.std.specs.Prelude.{◌≡◌, ℕ, ◌<◌, Bool, MatchBool, List, [], ◌∷◌, ◌++◌, length, Result, IfOk, IfErr}
 use Rattle.std.specs.declared.alloc.AllocError.{AllocError}
+use Rattle.std.specs.List.{AllZip}
 use mathlib.Core.List.{IsPrefix}
 use Rattle.hist_lock.specs.Histories.{made_by}
 use Rattle.hist_lock.specs.Callers.{Known, Begun, IsSameCaller, Extends, HasHistory}

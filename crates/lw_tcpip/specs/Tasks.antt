@@ -1,5 +1,6 @@
 -- Tasks: the messages of a line, and what they must fit.
-use Rattle.std.specs.Prelude.{◌≡◌, ℕ, Bool, true, false, List, filter_map, count_by, list_any, Option, Some, None}
+use Rattle.std.specs.Prelude.{◌≡◌, ℕ, Bool, true, false, List, filter_map, count_by, Option, Some, None}
+use Rattle.std.specs.List.{list_any}
 use Rattle.hist_lock.specs.Callers.{Known, Begun, IsCallerOf}
 use Rattle.lw_tcpip.specs.declared.message.Task.{Task}
 use Rattle.lw_tcpip.specs.declared.message.Task.TheVariants.{Frame, Call, Leave}

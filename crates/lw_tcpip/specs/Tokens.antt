@@ -44,10 +44,6 @@ pub record SeatSeen (K : Type 0) : Type 0 where
 abbrev pub answered : {K : Type 0} → SeatSeen K → SeatSeen K
 answered s = record s { pledge = record s.pledge { count = s.pledge.count + 1 } }
 
--- one more, up to the last number of 64 bits
-abbrev pub raised : ℕ → ℕ
-raised n = min (n + 1) 18446744073709551615
-
 module _ {L V : Type 0} where
   -- the line is one of this mailbox
   abbrev pub IsLineOf : Named (Service L) → LineSeen L V → Type 0
@@ -76,12 +72,23 @@ module _ {L : Type 0} where
   abbrev pub IsPlaceOf : TableId → Option (Service L) → ℕ → PlaceNamed (LineKey (Named (Service L))) → Type 0
   IsPlaceOf mbox terms line p = (p.key.mbox.value.table ≡ mbox) × (Some p.key.mbox.value.key ≡ terms) × (p.key.line ≡ line)
 
+  -- The seat's place is that of this line. So many replies were given there, and it says of the line that it has left only where it has
+  pub record IsSeat (mbox : TableId) (terms : Option (Service L)) (line calls : ℕ) (gone : Bool) (s : SeatSeen (LineKey (Named (Service L)))) : Type 0 where
+    pub own : IsSideOf s.place s.pledge
+    pub place : IsPlaceOf mbox terms line s.place
+    pub count : s.pledge.count ≡ calls
+    pub left : s.left ≡ true → gone ≡ true
+
+  -- each seat is that of the line whose number is its place in the list, of which no message was taken
+  abbrev pub AreNew : TableId → Option (Service L) → List (SeatSeen (LineKey (Named (Service L)))) → Type 0
+  AreNew mbox terms seats = (line : ℕ) (s : SeatSeen (LineKey (Named (Service L)))) → slice_get seats line ≡ Some s → IsSeat mbox terms line 0 false s
+
 module _ {C V L : Type 0} where
   -- What holds of a line between two calls. As many replies were taken as it has asked questions. Until it leaves, each line but the first knows all its messages as taken,
   -- and those that the first doesn't know are frames. Behind its last message there is none. The first is refused only where it may have filled the mailbox itself
-  pub record IsLine (put : Sender (Task C V) (Service L)) (place : PlaceNamed (LineKey (Named (Service L)))) (waits : Side (LineKey (Named (Service L)))) (places refusals : ℕ) : Type 0 where
-    pub own : IsSideOf place waits
-    pub place : IsPlaceOf put.table put.key put.number place
+  pub record IsLine (put : Sender (Task C V) (Service L)) (box : PlaceNamed (LineKey (Named (Service L)))) (waits : Side (LineKey (Named (Service L)))) (places refusals : ℕ) : Type 0 where
+    pub own : IsSideOf box waits
+    pub place : IsPlaceOf put.table put.key put.number box
     pub asked : waits.count ≡ calls_in put.sent
     pub known : has_left put.sent ≡ false → put.number ≢ 0 → put.known ≡ length put.sent
     pub frames : has_left put.sent ≡ false → put.number ≡ 0 → length put.sent ≤ put.known + length (frames_of put.sent)
@@ -89,19 +96,12 @@ module _ {C V L : Type 0} where
     pub last : has_left put.sent ≡ true → (before : List (Task C V)) × (line : ℕ) × (put.sent ≡ before ++ Leave line ∷ []) × (has_left before ≡ false)
     pub refused : 0 < refusals → places ≤ length (frames_of put.sent) + put.others
 
-  -- The line's place is that of its number. As many replies were given there as questions of the line were taken
-  pub record IsSeat (mbox : TableId) (terms : Option (Service L)) (given : List (Letter (Task C V))) (line : ℕ) (s : SeatSeen (LineKey (Named (Service L)))) : Type 0 where
-    pub own : IsSideOf s.place s.pledge
-    pub place : IsPlaceOf mbox terms line s.place
-    pub count : s.pledge.count ≡ calls_in (sent_by line given)
-    pub left : s.left ≡ true → has_left (sent_by line given) ≡ true
-
-  -- each seat is that of the line whose number is its place in the list
+  -- each seat is that of the line whose number is its place in the list, and as many replies were given there as questions of the line were taken
   abbrev pub AreSeats : TableId → Option (Service L) → List (Letter (Task C V)) → List (SeatSeen (LineKey (Named (Service L)))) → Type 0
-  AreSeats mbox terms given seats = (line : ℕ) (s : SeatSeen (LineKey (Named (Service L)))) → slice_get seats line ≡ Some s → IsSeat mbox terms given line s
+  AreSeats mbox terms given seats = (line : ℕ) (s : SeatSeen (LineKey (Named (Service L)))) → slice_get seats line ≡ Some s → IsSeat mbox terms line (calls_in (sent_by line given)) (has_left (sent_by line given)) s
 
   -- There is a seat for each line, and every line has left where the server says so
-  pub record IsServer (get : Receiver (Task C V) (Service L)) (seats : List (SeatSeen (LineKey (Named (Service L))))) (ended : Bool) : Type 0 where
+  pub record IsServer (get : Receiver (Task C V) (Service L)) (seats : List (SeatSeen (LineKey (Named (Service L))))) (over : Bool) : Type 0 where
     pub many : length seats ≡ get.others + 1
     pub each : AreSeats get.table get.key get.given seats
-    pub ended : ended ≡ true → (line : ℕ) → line ≤ get.others → has_left (sent_by line get.given) ≡ true
+    pub ended : over ≡ true → (line : ℕ) → line ≤ get.others → has_left (sent_by line get.given) ≡ true

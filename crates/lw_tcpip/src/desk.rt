@@ -10,6 +10,7 @@ use std::marker::Model;
 use std::sync::{Arc, Wait};
 
 /// Where one line is answered.
+#[derive(Drop)]
 pub struct Seat<O: Serial> {
     pub(crate) place: Arc<Counter<O>>,
     pub(crate) pledge: Clerk<O>,
@@ -27,20 +28,6 @@ impl<O: Serial> Model for Seat<O> {
     ghost Value = { SeatSeen (LineKey (Named (Service (Begun O)))) };
 
     ghost view = { λ s. record { place = arc_value s.place; pledge = s.pledge; left = s.left } };
-}
-
-impl<O: Serial> Drop for Seat<O>
-where
-    O::Ev: Drop,
-    O::Reply: Drop,
-{
-    fn drop(self) {
-        let Self {
-            place: _place,
-            pledge: _pledge,
-            left: _,
-        } = self;
-    }
 }
 
 /// Waits until the place of this line is free, and puts the reply in.
@@ -63,7 +50,8 @@ pub(crate) fn leave<O: Serial>(seats: &mut [Seat<O>], line: u32)
     requires { line < length seats.old }
     ensures { (s : _) → slice_get seats.old line ≡ Some s → seats.new ≡ slice_set seats.old line (record s { left = true }) }
 {
-    seats[line as usize].left = true;
+    let seat = &mut seats[line as usize];
+    seat.left = true;
 }
 
 /// Whether every line has left.

@@ -2,7 +2,6 @@
 #![tactic(auto)]
 
 mod desk;
-mod entries;
 mod gate;
 mod line;
 mod lines;

@@ -1,7 +1,7 @@
 //! One line's way to the tcpip thread.
 ghost use Rattle.std.specs.Prelude.{◌≡◌};
+ghost use Rattle.lw_tcpip.specs.Results.{counted};
 
-use crate::entries::Entries;
 use crate::message::Entry;
 use crate::reply::{Counter, Waiting};
 use hist_lock::Serial;
@@ -9,12 +9,13 @@ use std::marker::Model;
 use std::sync::Arc;
 
 /// A line: its owner's ways into the mailbox and out of its own reply place. Contracts see its number and what went through it.
+#[derive(Drop)]
 pub struct Line<O: Serial> {
     pub(crate) put: Entry<O>,
     pub(crate) place: Arc<Counter<O>>,
     pub(crate) waits: Waiting<O>,
     pub(crate) places: u32,
-    pub(crate) entries: Entries,
+    pub(crate) entries: u64,
     pub(crate) refusals: u64,
     pub(crate) lost: bool,
 }
@@ -27,7 +28,7 @@ impl<O: Serial> Model for Line<O> {
 
     ghost Value = { LineSeen (Begun O) O.Ev };
 
-    ghost view = { λ l. record { mbox = l.put.table; terms = l.put.key; places = l.places; number = l.put.number; others = l.put.others; frames = frames_of l.put.sent; entries = l.entries.count; refusals = l.refusals; left = has_left l.put.sent; lost = l.lost } };
+    ghost view = { λ l. record { mbox = l.put.table; terms = l.put.key; places = l.places; number = l.put.number; others = l.put.others; frames = frames_of l.put.sent; entries = l.entries; refusals = l.refusals; left = has_left l.put.sent; lost = l.lost } };
 
     ghost invariant = { λ l. IsLine l.put (arc_value l.place) l.waits l.places l.refusals };
 }
@@ -48,20 +49,12 @@ impl<O: Serial> Line<O> {
     }
 }
 
-impl<O: Serial> Drop for Line<O>
-where
-    O::Ev: Drop,
-    O::Reply: Drop,
+/// The number of entries after a reply: one more where the event was made.
+pub(crate) fn counted_after<T, E>(entries: u64, answer: &Result<T, E>) -> u64
+    ensures { result ≡ counted entries answer.now }
 {
-    fn drop(self) {
-        let Self {
-            put: _put,
-            place: _place,
-            waits: _waits,
-            places: _,
-            entries: _,
-            refusals: _,
-            lost: _,
-        } = self;
+    match answer {
+        Ok(_) => entries.saturating_add(1),
+        Err(_) => entries,
     }
 }

@@ -1,10 +1,9 @@
 //! How lines are opened.
-ghost use Rattle.std.specs.Prelude.{◌≡◌, [], length, Some, IfOk};
+ghost use Rattle.std.specs.Prelude.{◌≡◌, false, length, Some, IfOk};
 ghost use Rattle.tcpip_mbox.specs.Tokens.{fresh, ArePuts};
-ghost use Rattle.lw_tcpip.specs.Tokens.{fresh_line, AreLines, IsSeat, AreSeats};
+ghost use Rattle.lw_tcpip.specs.Tokens.{fresh_line, AreLines, IsSeat, AreNew};
 
 use crate::desk::Seat;
-use crate::entries::Entries;
 use crate::line::Line;
 use crate::message::{Entry, Queue};
 use crate::reply::LineKey;
@@ -27,7 +26,7 @@ where
     requires places { places ≡ mbox.now.places }
     requires put { put ≡ fresh mbox.now.table (Some mbox.now.key) put.number put.others }
     ensures line { IfOk result (λ r. r.0 ≡ fresh_line mbox.now put.number put.others) }
-    ensures seat { IfOk result (λ r. IsSeat mbox.now.table (Some mbox.now.key) [] put.number r.1) }
+    ensures seat { IfOk result (λ r. IsSeat mbox.now.table (Some mbox.now.key) put.number 0 false r.1) }
 {
     let key = LineKey {
         mbox: Snapshot::of(mbox),
@@ -41,7 +40,7 @@ where
         place,
         waits,
         places,
-        entries: Entries::none(),
+        entries: 0,
         refusals: 0,
         lost: false,
     };
@@ -66,7 +65,7 @@ where
     requires places { places ≡ mbox.now.places }
     requires puts { ArePuts mbox.now (length puts.items) puts.items }
     ensures lines { IfOk result (λ r. AreLines mbox.now (length puts.items) r.0.items) }
-    ensures seats { IfOk result (λ r. AreSeats mbox.now.table (Some mbox.now.key) [] r.1.items × (length r.1.items ≡ length puts.items)) }
+    ensures seats { IfOk result (λ r. AreNew mbox.now.table (Some mbox.now.key) r.1.items × (length r.1.items ≡ length puts.items)) }
 {
     let mut lines = Vec::with_capacity(alloc, puts.len())?;
     let mut seats = Vec::with_capacity(alloc, puts.len())?;

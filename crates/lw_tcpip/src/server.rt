@@ -5,6 +5,7 @@ use hist_lock::Serial;
 use std::marker::Model;
 
 /// The right to serve. Contracts see the frames that it took, whether every line has left, and whether a frame was given up.
+#[derive(Drop)]
 pub struct Server<O: Serial> {
     pub(crate) get: Exit<O>,
     pub(crate) seats: Vec<Seat<O>>,
@@ -23,19 +24,4 @@ impl<O: Serial> Model for Server<O> {
     ghost view = { λ s. record { mbox = s.get.table; terms = s.get.key; taken = frames_of (sent_by 0 s.get.given); ended = s.ended; lost = s.lost } };
 
     ghost invariant = { λ s. IsServer s.get s.seats.items s.ended };
-}
-
-impl<O: Serial> Drop for Server<O>
-where
-    O::Ev: Drop,
-    O::Reply: Drop,
-{
-    fn drop(self) {
-        let Self {
-            get: _get,
-            seats: _seats,
-            ended: _,
-            lost: _,
-        } = self;
-    }
 }

@@ -3,12 +3,12 @@ ghost use Rattle.std.specs.Prelude.{◌≡◌, ◌-◌, ◌+◌, ◌<◌, ◌≤
 ghost use mathlib.Core.List.{IsPrefix};
 ghost use Rattle.hist_lock.specs.Histories.{made_by};
 ghost use Rattle.hist_lock.specs.Callers.{IsCallerOf, IsSameCaller, Extends, HasHistory};
-ghost use Rattle.lw_tcpip.specs.Results.{counted};
+ghost use Rattle.lw_tcpip.specs.Results.{counted, raised};
 ghost use Rattle.lw_tcpip.specs.Replies.{IsMadeOf};
-ghost use Rattle.lw_tcpip.specs.Tokens.{IsLineOf, IsServerOf, raised};
+ghost use Rattle.lw_tcpip.specs.Tokens.{IsLineOf, IsServerOf};
 ghost use Rattle.lw_tcpip.specs.declared.tcpip.InputFault.TheVariants.{MboxFull};
 
-use crate::line::Line;
+use crate::line::{Line, counted_after};
 use crate::message::{Queue, Task};
 use crate::queue::post;
 use crate::reply::Reply;
@@ -47,6 +47,7 @@ impl InputFault {
 
 /// The way to the object under a lock by messages, which threads share by reference. Contracts see the mailbox: which one it is, how many places it has,
 /// the lock that is served, and the number of the caller that serves.
+#[derive(Drop)]
 pub struct Tcpip<O: Serial> {
     pub(crate) mbox: Queue<O>,
 }
@@ -59,15 +60,6 @@ impl<O: Serial> Model for Tcpip<O> {
     ghost Value = { Named (Service (Begun O)) };
 
     ghost view = { λ t. t.mbox };
-}
-
-impl<O: Serial> Drop for Tcpip<O>
-where
-    O::Ev: Drop,
-{
-    fn drop(self) {
-        let Self { mbox: _mbox } = self;
-    }
 }
 
 
@@ -102,7 +94,7 @@ impl<O: Serial> Tcpip<O> {
         } = reply;
         self.mbox.meet(&mut line.put, note);
         line.lost = lost;
-        line.entries = line.entries.after(&result);
+        line.entries = counted_after(line.entries, &result);
         (caller, result)
     }
 

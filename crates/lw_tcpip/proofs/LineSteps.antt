@@ -7,8 +7,9 @@ use Rattle.lw_tcpip.specs.declared.message.Task.{Task}
 use Rattle.lw_tcpip.specs.declared.message.Task.TheVariants.{Frame, Call, Leave}
 use Rattle.lw_tcpip.specs.declared.message.Service.{Service}
 use Rattle.lw_tcpip.specs.declared.reply.LineKey.{LineKey}
+use Rattle.lw_tcpip.specs.Results.{raised}
 use Rattle.lw_tcpip.specs.Tasks.{frame_in, is_call, is_leave, frames_of, calls_in, has_left}
-use Rattle.lw_tcpip.specs.Tokens.{IsLine, raised}
+use Rattle.lw_tcpip.specs.Tokens.{IsLine}
 use Rattle.lw_tcpip.proofs.Lists.{count_by-snoc, any-snoc, or-false, not_both, whole_by}
 
 or-true : (b : Bool) → (b || true) ≡ true
