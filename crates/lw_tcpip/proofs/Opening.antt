@@ -29,15 +29,7 @@ nothing_there : {X : Type 0} (i : ℕ) (x : X) → slice_get [] i ≡ Some x →
 nothing_there {X} zero x e = cc
 nothing_there {X} (suc i) x e = cc
 
-module _ {C V L : Type 0} (t : Named (Service L)) (n : ℕ) where
-  later_puts : (k : ℕ) (ps : List (Sender (Task C V) (Service L))) → ArePutsFrom t.table (Some t.key) (suc k) ps → PutsFrom t n (suc k) ps
-  later_puts k [] h = tt
-  later_puts k (p ∷ ps) h = let e : suc k + 1 ≡ suc (suc k) = omega arith in (h.0, later_puts (suc k) ps (subst (λ (j : ℕ). ArePutsFrom t.table (Some t.key) j ps) e h.1))
-
-  pub puts_from : (ps : List (Sender (Task C V) (Service L))) → ArePuts t n ps → PutsFrom t n 0 ps
-  puts_from [] h = absurd h
-  puts_from (p ∷ ps) h = (h.0, later_puts 0 ps h.1)
-
+module _ {V L : Type 0} (t : Named (Service L)) (n : ℕ) where
   later_lines : (k : ℕ) (ls : List (LineSeen L V)) → LinesFrom t n (suc k) ls → AreNumbered t (suc k) ls
   later_lines k [] h = tt
   later_lines k (l ∷ ls) h = let e : suc k + 1 ≡ suc (suc k) = omega arith in (h.0, subst (λ (j : ℕ). AreNumbered t j ls) (sym e) (later_lines (suc k) ls h.1))
@@ -50,12 +42,25 @@ module _ {C V L : Type 0} (t : Named (Service L)) (n : ℕ) where
   line_pushed k [] l h is = (is ∙ ap (λ (j : ℕ). fresh_line t j (others_at n j)) (add-zero k), tt)
   line_pushed k (d ∷ ls) l h is = (h.0, line_pushed (suc k) ls l h.1 (is ∙ ap (λ (j : ℕ). fresh_line t j (others_at n j)) (let e : k + length (d ∷ ls) ≡ suc k + length ls = omega arith in e)))
 
+module _ {L : Type 0} (t : Named (Service L)) where
+  pub seat_pushed : (ss : List (SeatSeen (LineKey (Named (Service L))))) (s : SeatSeen (LineKey (Named (Service L)))) → AreNew t.table (Some t.key) ss → IsSeat t.table (Some t.key) (length ss) 0 false s → AreNew t.table (Some t.key) (ss ++ s ∷ [])
+  seat_pushed ss s h new line u found = elim (get_push ss s u line found) [ inl old ↦ h line u old | inr here ↦ subst (λ (k : ℕ). IsSeat t.table (Some t.key) k 0 false u) (sym here.0) (subst (λ (v : SeatSeen (LineKey (Named (Service L)))). IsSeat t.table (Some t.key) (length ss) 0 false v) here.1 new) ]
+
+  none_seated : AreNew t.table (Some t.key) []
+  none_seated line s found = absurd (nothing_there line s found)
+
+module _ {C V L : Type 0} (t : Named (Service L)) (n : ℕ) where
+  later_puts : (k : ℕ) (ps : List (Sender (Task C V) (Service L))) → ArePutsFrom t.table (Some t.key) (suc k) ps → PutsFrom t n (suc k) ps
+  later_puts k [] h = tt
+  later_puts k (p ∷ ps) h = let e : suc k + 1 ≡ suc (suc k) = omega arith in (h.0, later_puts (suc k) ps (subst (λ (j : ℕ). ArePutsFrom t.table (Some t.key) j ps) e h.1))
+
+  pub puts_from : (ps : List (Sender (Task C V) (Service L))) → ArePuts t n ps → PutsFrom t n 0 ps
+  puts_from [] h = absurd h
+  puts_from (p ∷ ps) h = (h.0, later_puts 0 ps h.1)
+
   pub some_lines : (ps : List (Sender (Task C V) (Service L))) → ArePuts t n ps → 0 < n
   some_lines [] h = absurd h
   some_lines (p ∷ ps) h = let e = h.2 in omega arith
-
-  pub seat_pushed : (ss : List (SeatSeen (LineKey (Named (Service L))))) (s : SeatSeen (LineKey (Named (Service L)))) → AreNew t.table (Some t.key) ss → IsSeat t.table (Some t.key) (length ss) 0 false s → AreNew t.table (Some t.key) (ss ++ s ∷ [])
-  seat_pushed ss s h new line u found = elim (get_push ss s u line found) [ inl old ↦ h line u old | inr here ↦ subst (λ (k : ℕ). IsSeat t.table (Some t.key) k 0 false u) (sym here.0) (subst (λ (v : SeatSeen (LineKey (Named (Service L)))). IsSeat t.table (Some t.key) (length ss) 0 false v) here.1 new) ]
 
   -- what holds while so many lines were opened, and these Puts are left
   pub record Opened (all : ℕ) (lines : List (LineSeen L V)) (seats : List (SeatSeen (LineKey (Named (Service L))))) (rest : List (Sender (Task C V) (Service L))) : Type 0 where
@@ -65,14 +70,11 @@ module _ {C V L : Type 0} (t : Named (Service L)) (n : ℕ) where
     pub left : PutsFrom t n (length lines) rest
     pub whole : length lines + length rest ≡ all
 
-  none_seated : AreNew t.table (Some t.key) []
-  none_seated line s found = absurd (nothing_there line s found)
-
   pub put_fresh : (all : ℕ) (lines : List (LineSeen L V)) (seats : List (SeatSeen (LineKey (Named (Service L))))) (p : Sender (Task C V) (Service L)) (rest : List (Sender (Task C V) (Service L))) → Opened all lines seats (p ∷ rest) → p ≡ fresh t.table (Some t.key) p.number p.others
   put_fresh all lines seats p rest h = let e = h.left.0 in e ∙ ap (λ (q : Sender (Task C V) (Service L)). fresh t.table (Some t.key) q.number q.others) (sym e)
 
   pub opened_first : (ps : List (Sender (Task C V) (Service L))) → ArePuts t n ps → Opened (length ps) [] [] ps
-  opened_first ps h = record { opened = tt; seated = none_seated; many = refl; left = puts_from ps h; whole = omega arith }
+  opened_first ps h = record { opened = tt; seated = none_seated t; many = refl; left = puts_from ps h; whole = omega arith }
 
   pub opened_next : (all : ℕ) (lines : List (LineSeen L V)) (seats : List (SeatSeen (LineKey (Named (Service L))))) (p : Sender (Task C V) (Service L)) (rest : List (Sender (Task C V) (Service L))) (l : LineSeen L V) (s : SeatSeen (LineKey (Named (Service L))))
       → Opened all lines seats (p ∷ rest) → l ≡ fresh_line t p.number p.others → IsSeat t.table (Some t.key) p.number 0 false s → Opened all (lines ++ l ∷ []) (seats ++ s ∷ []) rest
@@ -80,8 +82,8 @@ module _ {C V L : Type 0} (t : Named (Service L)) (n : ℕ) where
       let more = length-append lines (l ∷ []) in let many = h.many in let whole = h.whole in
       let one : suc (length lines) ≡ length (lines ++ l ∷ []) = omega arith in
       record {
-        opened = line_pushed 0 lines l h.opened (is ∙ (ap (λ (q : Sender (Task C V) (Service L)). fresh_line t q.number q.others) e ∙ ap (λ (j : ℕ). fresh_line t j (others_at n j)) (let z : length lines ≡ 0 + length lines = omega arith in z)));
-        seated = seat_pushed seats s h.seated (subst (λ (k : ℕ). IsSeat t.table (Some t.key) k 0 false s) (at ∙ sym many) new);
+        opened = line_pushed t n 0 lines l h.opened (is ∙ (ap (λ (q : Sender (Task C V) (Service L)). fresh_line t q.number q.others) e ∙ ap (λ (j : ℕ). fresh_line t j (others_at n j)) (let z : length lines ≡ 0 + length lines = omega arith in z)));
+        seated = seat_pushed t seats s h.seated (subst (λ (k : ℕ). IsSeat t.table (Some t.key) k 0 false s) (at ∙ sym many) new);
         many = omega (arith, length-append seats (s ∷ []));
         left = subst (λ (k : ℕ). PutsFrom t n k rest) one h.left.1;
         whole = omega arith;
@@ -90,7 +92,7 @@ module _ {C V L : Type 0} (t : Named (Service L)) (n : ℕ) where
   pub opened_last : (ps : List (Sender (Task C V) (Service L))) (lines : List (LineSeen L V)) (seats : List (SeatSeen (LineKey (Named (Service L))))) (rest : List (Sender (Task C V) (Service L))) → ArePuts t n ps → n ≡ length ps → length rest ≡ 0 → Opened (length ps) lines seats rest
       → AreLines t n lines × AreNew t.table (Some t.key) seats × (length seats ≡ n)
   opened_last ps lines seats rest h e none o = let many = o.many in let whole = o.whole in
-      (lines_from lines o.opened (omega arith) (some_lines ps h), o.seated, omega arith)
+      (lines_from t n lines o.opened (omega arith) (some_lines ps h), o.seated, omega arith)
 
   pub puts_many : (ps : List (Sender (Task C V) (Service L))) → ArePuts t n ps → length ps ≡ n
   puts_many [] h = absurd h
