@@ -28,8 +28,8 @@ module _ {C V : Type 0} where
 
 module _ {O E S T V R : Type 0} (state : O → S) (tag : O → T) (by : E → ℕ) (same : V → V → Type 0) (tells : T → E → V → R → Type 0) (steps : S → E → S → Type 0) where
   module _ (key : LineKey (Named (Service (Begun O)))) (n : ℕ) (r : Reply (Known O E) R V (Noted (Task (Known O E) V))) (h : Answers state tag by same tells steps key n r)
-           (number : ℕ) (sent : List (Task (Known O E) V)) (c : Known O E) (v : V) (at : key.line ≡ number) (count : n ≡ calls_in sent)
-           (p : IsPrefix (sent_by number r.note.given) (sent ++ Call number c v ∷ [])) where
+      (number : ℕ) (sent : List (Task (Known O E) V)) (c : Known O E) (v : V) (at : key.line ≡ number) (count : n ≡ calls_in sent)
+      (p : IsPrefix (sent_by number r.note.given) (sent ++ Call number c v ∷ [])) where
     -- the reply was made right after this question was taken
     whole : (h.earlier ≡ sent) × (Call key.line h.who h.event ≡ Call number c v)
     whole = same_end is_call h.earlier sent (Call key.line h.who h.event) (Call number c v) p.0 refl (h.place ∙ count)

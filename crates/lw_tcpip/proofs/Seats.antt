@@ -37,39 +37,39 @@ module _ {C V L : Type 0} (get : Receiver (Task C V) (Service L)) (seats : List 
       (λ is. subst (λ (k : ℕ). IsSeat get.table get.key k (calls_in (sent_by k (get.given ++ letter n m ∷ []))) (has_left (sent_by k (get.given ++ letter n m ∷ []))) u) (sym is) (subst (λ (v : SeatSeen (LineKey (Named (Service L)))). IsSeat get.table get.key n (calls_in (sent_by n (get.given ++ letter n m ∷ []))) (has_left (sent_by n (get.given ++ letter n m ∷ []))) v)
       (get_set_same seats t u n (subst (λ (k : ℕ). slice_get (slice_set seats n t) k ≡ Some u) is found)) new))
       (λ no. let old = h.each line u (get_set_other seats t u n line no found) in let same = sent_by-else line get.given (letter n m) (λ e. no (sym e)) in record {
-      own = old.own;
-      place = old.place;
-      count = old.count ∙ ap calls_in (sym same);
-      left = λ l. ap has_left same ∙ old.left l;
-    })
+        own = old.own;
+        place = old.place;
+        count = old.count ∙ ap calls_in (sym same);
+        left = λ l. ap has_left same ∙ old.left l;
+      })
 
   -- a question was taken and answered
   pub server_called : (line : ℕ) (c : C) (v : V) (s : SeatSeen (LineKey (Named (Service L)))) → slice_get seats n ≡ Some s → IsServer (record get { given = get.given ++ letter n (Call line c v) ∷ [] }) (slice_set seats n (answered s)) ended
   server_called line c v s at = let old = h.each n s at in let same = sent_by-same n get.given (letter n (Call line c v)) refl in record {
-        many = length-set seats n (answered s) ∙ h.many;
-        each = seats_step (Call line c v) s (answered s) at (record {
-          own = old.own;
-          place = old.place;
-          count = (let count = old.count in let calls = ap calls_in same in let one = calls-call (sent_by n get.given) line c v in omega arith);
-          left = λ l. left-more n n get.given (Call line c v) (old.left l);
-        });
-        ended = λ e i below. left-more i n get.given (Call line c v) (h.ended e i below);
-      }
+    many = length-set seats n (answered s) ∙ h.many;
+    each = seats_step (Call line c v) s (answered s) at (record {
+      own = old.own;
+      place = old.place;
+      count = (let count = old.count in let calls = ap calls_in same in let one = calls-call (sent_by n get.given) line c v in omega arith);
+      left = λ l. left-more n n get.given (Call line c v) (old.left l);
+    });
+    ended = λ e i below. left-more i n get.given (Call line c v) (h.ended e i below);
+  }
 
   -- a frame was taken
   pub server_fed : (v : V) → IsServer (record get { given = get.given ++ letter n (Frame v) ∷ [] }) seats ended
   server_fed v = record {
-        many = h.many;
-        each = λ line u found. let old = h.each line u found in record {
-          own = old.own;
-          place = old.place;
-          count = dite (ℕ_discrete n line)
-              (λ is. let e = ap calls_in (sent_by-same line get.given (letter n (Frame v)) is) ∙ calls-frame (sent_by line get.given) v in old.count ∙ sym e)
-              (λ no. old.count ∙ ap calls_in (sym (sent_by-else line get.given (letter n (Frame v)) no)));
-          left = λ l. left-more line n get.given (Frame v) (old.left l);
-        };
-        ended = λ e i below. left-more i n get.given (Frame v) (h.ended e i below);
-      }
+    many = h.many;
+    each = λ line u found. let old = h.each line u found in record {
+      own = old.own;
+      place = old.place;
+      count = dite (ℕ_discrete n line)
+          (λ is. let e = ap calls_in (sent_by-same line get.given (letter n (Frame v)) is) ∙ calls-frame (sent_by line get.given) v in old.count ∙ sym e)
+          (λ no. old.count ∙ ap calls_in (sym (sent_by-else line get.given (letter n (Frame v)) no)));
+      left = λ l. left-more line n get.given (Frame v) (old.left l);
+    };
+    ended = λ e i below. left-more i n get.given (Frame v) (h.ended e i below);
+  }
 
   -- a last message was taken
   pub server_left : (line : ℕ) (s : SeatSeen (LineKey (Named (Service L)))) (all : Bool) → slice_get seats n ≡ Some s → (all ≡ true → All (λ (t : SeatSeen (LineKey (Named (Service L)))). t.left ≡ true) (slice_set seats n (record s { left = true })))

@@ -45,12 +45,14 @@ module _ {E : Type 0} where
 module _ {O E S T V R F : Type 0} (state : O → S) (tag : O → T) (by : E → ℕ) (same : V → V → Type 0) (tells : T → E → V → R → Type 0) (steps : S → E → S → Type 0) where
   -- the answer to a caller that learnt something before is one to the caller as it was
   pub answer_after : (start : O) (who mid back : Known O E) (event : V) (r : Result R F) (longest : List E) → mid ≡ record who { seen = longest } → IsPrefix who.seen mid.seen → IfOk r (λ x. Extends by (tells (tag start)) mid event x back) → IfOk r (λ x. Extends by (tells (tag start)) who event x back)
-  answer_after start who mid back event (Ok x) longest is p h = let front = h.2 in
-      (p.0 ++ h.0, h.1,
-      h.2 ∙ ap (λ (l : List E). (l ++ h.0) ++ h.1 ∷ []) (sym p.1) ∙ ap (λ (l : List E). l ++ h.1 ∷ []) (append_assoc who.seen p.0 h.0),
-      h.3 ∙ ap (λ (k : Known O E). k.mine ++ h.1 ∷ []) is,
-      h.4 ∙ ap (λ (k : Known O E). k.number) is,
-      h.5)
+  answer_after start who mid back event (Ok x) longest is p h = let front = h.2 in (
+    p.0 ++ h.0,
+    h.1,
+    h.2 ∙ ap (λ (l : List E). (l ++ h.0) ++ h.1 ∷ []) (sym p.1) ∙ ap (λ (l : List E). l ++ h.1 ∷ []) (append_assoc who.seen p.0 h.0),
+    h.3 ∙ ap (λ (k : Known O E). k.mine ++ h.1 ∷ []) is,
+    h.4 ∙ ap (λ (k : Known O E). k.number) is,
+    h.5,
+  )
   answer_after start who mid back event (Err x) longest is p h = tt
 
   err_after : (who mid back : Known O E) (event : V) (r : Result R (F × V)) (longest : List E) → mid ≡ record who { seen = longest } → IsPrefix who.seen mid.seen → IfErr r (λ x. same event x.1 × IsPrefix mid.seen back.seen × (back.mine ≡ mid.mine)) → IfErr r (λ x. same event x.1 × IsPrefix who.seen back.seen × (back.mine ≡ who.mine))
@@ -72,8 +74,8 @@ module _ {O E S T V R : Type 0} (state : O → S) (tag : O → T) (by : E → �
   pub answer_from : (start : O) (who mid back : Known O E) (event : V) (r : Result R (AllocError × V)) (longest : List E) → mid ≡ record who { seen = longest } → IsPrefix who.seen mid.seen → IsSameCaller mid back → IfOk r (λ x. Extends by (tells (tag start)) mid event x back)
       → IfErr r (λ x. same event x.1 × IsPrefix mid.seen back.seen × (back.mine ≡ mid.mine)) → HasHistory state by steps start back → IsAnswer state tag by same tells steps start who event back r
   answer_from start who mid back event r longest is p caller ok err history = record {
-      caller = (caller.0 ∙ ap (λ (k : Known O E). k.lock) is, caller.1 ∙ ap (λ (k : Known O E). k.start) is, caller.2 ∙ ap (λ (k : Known O E). k.number) is, caller.3 ∙ ap (λ (k : Known O E). k.splits) is);
-      ok = answer_after state tag by same tells steps start who mid back event r longest is p ok;
-      err = err_after state tag by same tells steps who mid back event r longest is p err;
-      history = history;
-    }
+    caller = (caller.0 ∙ ap (λ (k : Known O E). k.lock) is, caller.1 ∙ ap (λ (k : Known O E). k.start) is, caller.2 ∙ ap (λ (k : Known O E). k.number) is, caller.3 ∙ ap (λ (k : Known O E). k.splits) is);
+    ok = answer_after state tag by same tells steps start who mid back event r longest is p ok;
+    err = err_after state tag by same tells steps who mid back event r longest is p err;
+    history = history;
+  }

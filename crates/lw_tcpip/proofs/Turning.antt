@@ -16,7 +16,7 @@ use Rattle.lw_tcpip.proofs.Served.{made_next}
 use Rattle.lw_tcpip.proofs.Seats.{server_called, server_fed, server_left, taken-frame, taken-call, taken-leave}
 
 module _ {C V L : Type 0} (get now : Receiver (Task C V) (Service L)) (seats : List (SeatSeen (LineKey (Named (Service L))))) (ended : Bool) (h : IsServer get seats ended) (n : ℕ) (low : n ≤ get.others)
-         (m : Task C V) (same : (now.table ≡ get.table) × (now.key ≡ get.key) × (now.others ≡ get.others)) (given : now.given ≡ get.given ++ letter n m ∷ []) where
+    (m : Task C V) (same : (now.table ≡ get.table) × (now.key ≡ get.key) × (now.others ≡ get.others)) (given : now.given ≡ get.given ++ letter n m ∷ []) where
   pub given_one : now ≡ record get { given = get.given ++ letter n m ∷ [] }
   given_one i = record { table = same.0 i; key = same.1 i; others = same.2 i; given = given i }
 
@@ -25,7 +25,7 @@ module _ {C V L : Type 0} (get now : Receiver (Task C V) (Service L)) (seats : L
   seat_at = let many = h.many in get_within seats n (omega arith)
 
 module _ {C V L : Type 0} (get now : Receiver (Task C V) (Service L)) (seats after : List (SeatSeen (LineKey (Named (Service L))))) (ended : Bool) (h : IsServer get seats ended) (n : ℕ) (low : n ≤ get.others)
-         (same : (now.table ≡ get.table) × (now.key ≡ get.key) × (now.others ≡ get.others)) where
+    (same : (now.table ≡ get.table) × (now.key ≡ get.key) × (now.others ≡ get.others)) where
   pub called_server : (line : ℕ) (c : C) (v : V) → now.given ≡ get.given ++ letter n (Call line c v) ∷ [] → line ≡ n → ((s : SeatSeen (LineKey (Named (Service L)))) → slice_get seats line ≡ Some s → after ≡ slice_set seats line (answered s)) → IsServer now after ended
   called_server line c v given own write = let s = seat_at get now seats ended h n low (Call line c v) same given in let e = given_one get now seats ended h n low (Call line c v) same given in
       let wrote : after ≡ slice_set seats n (answered s.0) = write s.0 (ap (λ (k : ℕ). slice_get seats k) own ∙ s.1) ∙ ap (λ (k : ℕ). slice_set seats k (answered s.0)) own in

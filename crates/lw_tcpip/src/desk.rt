@@ -31,12 +31,7 @@ impl<O: Serial> Model for Seat<O> {
 }
 
 /// Waits until the place of this line is free, and puts the reply in.
-pub(crate) fn give<O: Serial, R: Wait>(
-    rt: &R,
-    seats: &mut [Seat<O>],
-    line: u32,
-    reply: Answered<O>,
-)
+pub(crate) fn give<O: Serial, R: Wait>(rt: &R, seats: &mut [Seat<O>], line: u32, reply: Answered<O>)
     requires line { line < length seats.old }
     requires seat { (s : _) → slice_get seats.old line ≡ Some s → IsOf s.place s.pledge × Answers O.state O.tag O.by O.same O.tells O.steps s.place.key s.pledge.count reply }
     ensures { (s : _) → slice_get seats.old line ≡ Some s → seats.new ≡ slice_set seats.old line (answered s) }

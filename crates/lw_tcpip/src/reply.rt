@@ -24,8 +24,7 @@ pub struct LineKey<M> {
     pub line: u32,
 }
 
-pub(crate) type Answered<O> =
-    Reply<Caller<O>, <O as Serial>::Reply, <O as Serial>::Ev, Note<O>>;
+pub(crate) type Answered<O> = Reply<Caller<O>, <O as Serial>::Reply, <O as Serial>::Ev, Note<O>>;
 
 pub(crate) type Questions<O> = LineKey<Queue<O>>;
 

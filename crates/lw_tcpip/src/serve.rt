@@ -6,8 +6,8 @@ ghost use Rattle.lw_tcpip.specs.Tasks.{frames_of};
 ghost use Rattle.lw_tcpip.specs.Replies.{Each, IsMadeOf};
 ghost use Rattle.lw_tcpip.specs.Tokens.{IsServerOf};
 
-use crate::gate::{Gate, Place};
 use crate::desk::{all_left, give, leave};
+use crate::gate::{Gate, Place};
 use crate::message::Task;
 use crate::queue::pause;
 use crate::reply::Reply;

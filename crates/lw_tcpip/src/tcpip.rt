@@ -62,7 +62,6 @@ impl<O: Serial> Model for Tcpip<O> {
     ghost view = { λ t. t.mbox };
 }
 
-
 impl<O: Serial> Tcpip<O> {
     /// Sends the caller and the event to the tcpip thread, waits for the answer, and hands both back. Where the mailbox is full it tries again.
     pub fn apimsg<R: Wait>(

@@ -26,4 +26,4 @@ pub returns : goal.returns
 returns g c = λ s found. let r = c.index-seats-line.result in let get = slice_get_read c.args.seats.now (length c.args.seats.now) c.args.line r refl c.requires.line c.index-seats-line.is in let same : r ≡ s = some_same r s (sym get ∙ found) in
     ap (λ (t : SeatSeen (LineKey (Named (Service (Begun g.row.O.Denot))))). slice_set c.args.seats.now c.args.line t)
     (ap (λ (p : Side (LineKey (Named (Service (Begun g.row.O.Denot))))). let t : SeatSeen (LineKey (Named (Service (Begun g.row.O.Denot)))) = record { place = arc_value c.seat.inside.place; pledge = p; left = c.seat.inside.left } in t) c.give.ensures.given
-        ∙ ap (λ (t : SeatSeen (LineKey (Named (Service (Begun g.row.O.Denot))))). answered t) (c.seat.view_is ∙ (sym c.index-seats-line.is ∙ same)))
+    ∙ ap (λ (t : SeatSeen (LineKey (Named (Service (Begun g.row.O.Denot))))). answered t) (c.seat.view_is ∙ (sym c.index-seats-line.is ∙ same)))

@@ -34,12 +34,14 @@ give-requires-clause-seat g c = λ q found. let s = c.server.inside in let inv =
     let fit : Fits g.O.Serial.fits g.O.Serial.tag c.self.inside.mbox.key some.0 (sent_by some.0 s.get.given) (Call c.in-Call.line c.in-Call.caller c.in-Call.event) = subst (λ (m : Task (Known g.row.O.Denot g.row.O-Entry.Denot) g.row.O-Ev.Denot). Fits g.O.Serial.fits g.O.Serial.tag c.self.inside.mbox.key some.0 (sent_by some.0 s.get.given) m) c.in-Call.is some.2 in
     let made : IsMadeOf (g.O.Serial.tells (g.O.Serial.tag c.args.lock.now.start)) c.args.who.now.mine (frames_of (sent_by 0 s.get.given)) s.lost = subst (λ (x : ServerSeen (Begun g.row.O.Denot) g.row.O-Ev.Denot). IsMadeOf (g.O.Serial.tells (g.O.Serial.tag c.args.lock.now.start)) c.args.who.now.mine x.taken x.lost) (sym c.server.view_is) c.requires.made in
     let at = ap (λ (l : List (SeatSeen (LineKey (Named (Service (Begun g.row.O.Denot)))))). slice_get l some.0) (sym c.deref_mut.ensures.value) ∙ (ap (λ (k : ℕ). slice_get c.deref_mut.result.now k) (sym fit.0) ∙ found) in
-    let seat = inv.each some.0 q at in let note = c.note-note.ensures.note in
-    (seat.own, answers_made g.O.Serial.state g.O.Serial.tag g.O.Serial.by g.O.Serial.same g.O.Serial.tells g.O.Serial.steps q.place.key c.args.self.now.key c.args.lock.now.start some.0 q.pledge.count c.in-Call.line s.get.given c.in-Call.caller c.in-Call.event c.make_call-caller.result.0 c.make_call-caller.result.1 c.note-note.result s.lost c.args.who.now.mine
-    (ap (λ x. x.table) note ∙ (same.0 ∙ sym seat.place.0))
-    (some_same q.place.key.mbox.value.key c.args.self.now.key (seat.place.1 ∙ (ap (λ x. x.terms) c.server.view_is ∙ c.requires.server.1)))
-    (ap (λ b. b.start) c.requires.lock) seat.place.2 fit.0 seat.count (ap (λ x. x.given) note ∙ given) c.make_call-caller.ensures.answer
-    (ap (λ (k : ℕ). made_by g.O.Serial.by k c.make_call-caller.result.0.seen) (sym c.requires.own.1) ∙ c.make_call-caller.ensures.heard) made)
+    let seat = inv.each some.0 q at in let note = c.note-note.ensures.note in (
+      seat.own,
+      answers_made g.O.Serial.state g.O.Serial.tag g.O.Serial.by g.O.Serial.same g.O.Serial.tells g.O.Serial.steps q.place.key c.args.self.now.key c.args.lock.now.start some.0 q.pledge.count c.in-Call.line s.get.given c.in-Call.caller c.in-Call.event c.make_call-caller.result.0 c.make_call-caller.result.1 c.note-note.result s.lost c.args.who.now.mine
+          (ap (λ x. x.table) note ∙ (same.0 ∙ sym seat.place.0))
+          (some_same q.place.key.mbox.value.key c.args.self.now.key (seat.place.1 ∙ (ap (λ x. x.terms) c.server.view_is ∙ c.requires.server.1)))
+          (ap (λ b. b.start) c.requires.lock) seat.place.2 fit.0 seat.count (ap (λ x. x.given) note ∙ given) c.make_call-caller.ensures.answer
+          (ap (λ (k : ℕ). made_by g.O.Serial.by k c.make_call-caller.result.0.seen) (sym c.requires.own.1) ∙ c.make_call-caller.ensures.heard) made,
+    )
 
 pub invariant_of-server-in-Call : goal.invariant_of-server-in-Call
 invariant_of-server-in-Call g c = let s = c.server.inside in let inv = c.server.invariant in let some = c.in-Some.ensures.some in let same = c.get.ensures.same in
