@@ -1,6 +1,6 @@
 use Rattle.std.proofs.Common.{rules, ◌≡◌, ◌++◌, ◌∷◌, [], length, arith}
 use Rattle.lw_pbuf.proofs.Freed.{frees_first, frees_span, frees_few, frees_next, frees_last, give-few}
-use Rattle.lw_pbuf.proofs.free.give_up_spans.Goals as goal
+use Rattle.lw_pbuf.proofs.free.give_up_each.Goals as goal
 
 pub loop-span-init : goal.loop-span-init
 loop-span-init c = frees_first c.args.seat.now c.args.spans.items c.requires.chain c.requires.listed
