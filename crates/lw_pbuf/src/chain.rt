@@ -117,8 +117,9 @@ impl Chain {
             counts: _counts,
             mut spans,
         } = tail;
-        if !spans.is_empty() {
-            self.spans.append(&mut spans).unwrap();
+        if spans.is_empty() {
+            return;
         }
+        self.spans.append(&mut spans).unwrap();
     }
 }

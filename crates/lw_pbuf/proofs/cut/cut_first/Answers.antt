@@ -1,4 +1,4 @@
-use Rattle.std.proofs.Common.{rules, List, length, ap, refl, arith}
+use Rattle.std.proofs.Common.{rules, ◌∙◌, List, length, get_or, ap, refl, arith}
 use Rattle.pbuf_spans.specs.Parts.{Part, joined}
 use Rattle.lw_pbuf.proofs.Freed.{give-few}
 use Rattle.lw_pbuf.proofs.SpanCuts.{first_span, same_first, front_part, front_whole}
@@ -9,8 +9,8 @@ cut_front-requires c =
     let r = c.requires in
     let some = r.some in
     let within = r.within in
-    let m = first_span c.args.seat.now c.args.spans.now.items c.index_mut.result.now (record { chain = r.chain; listed = r.listed }) (omega arith) c.index_mut.ensures.value in
-    let same = ap (λ (l : List Part). length (joined l)) (same_first c.args.spans.now.items c.index.result.now c.index_mut.result.now (omega arith) c.index.ensures c.index_mut.ensures.value) in
+    let m = first_span c.args.seat.now c.args.spans.now.items c.index-as_mut_slice-0.result.now (record { chain = r.chain; listed = r.listed }) (omega arith) (c.index-as_mut_slice-0.ensures.value ∙ ap (λ (l : List (List Part)). get_or l 0 c.index-as_mut_slice-0.result.now) c.as_mut_slice.ensures.value) in
+    let same = ap (λ (l : List Part). length (joined l)) (same_first c.args.spans.now.items c.index-as_slice-0.result.now c.index-as_mut_slice-0.result.now (omega arith) (c.index-as_slice-0.ensures ∙ ap (λ (l : List (List Part)). get_or l 0 c.index-as_slice-0.result.now) c.as_slice.ensures) (c.index-as_mut_slice-0.ensures.value ∙ ap (λ (l : List (List Part)). get_or l 0 c.index-as_mut_slice-0.result.now) c.as_mut_slice.ensures.value)) in
     let len = c.len-len.ensures in
     let short = c.if-n-len.true in
     record { within = omega arith; chain = m.chain; listed = m.listed }
@@ -21,11 +21,11 @@ returns-then-n-len c =
     let e = c.cut_front.ensures in
     let some = r.some in
     let within = r.within in
-    let same = ap (λ (l : List Part). length (joined l)) (same_first c.args.spans.now.items c.index.result.now c.index_mut.result.now (omega arith) c.index.ensures c.index_mut.ensures.value) in
+    let same = ap (λ (l : List Part). length (joined l)) (same_first c.args.spans.now.items c.index-as_slice-0.result.now c.index-as_mut_slice-0.result.now (omega arith) (c.index-as_slice-0.ensures ∙ ap (λ (l : List (List Part)). get_or l 0 c.index-as_slice-0.result.now) c.as_slice.ensures) (c.index-as_mut_slice-0.ensures.value ∙ ap (λ (l : List (List Part)). get_or l 0 c.index-as_mut_slice-0.result.now) c.as_mut_slice.ensures.value)) in
     let len = c.len-len.ensures in
     let short = c.if-n-len.true in
-    let s = front_part c.args.seat.now c.cut_front.new.seat c.args.spans.now.items _ c.index_mut.result.now c.cut_front.new.self c.args.n (record { chain = r.chain; listed = r.listed }) r.full r.some r.within
-    c.index_mut.ensures.value (omega arith) e.octets e.left e.chain e.cut refl in
+    let s = front_part c.args.seat.now c.cut_front.new.seat c.args.spans.now.items _ c.index-as_mut_slice-0.result.now c.cut_front.new.self c.args.n (record { chain = r.chain; listed = r.listed }) r.full r.some r.within
+    (c.index-as_mut_slice-0.ensures.value ∙ ap (λ (l : List (List Part)). get_or l 0 c.index-as_mut_slice-0.result.now) c.as_mut_slice.ensures.value) (omega arith) e.octets e.left e.chain e.cut refl in
     record { octets = s.octets; left_parts = s.left_parts; within = s.within; less = s.less; chain = s.cuts.may.chain; full = s.full; cut = s.cuts.cut; capacity = search rules; fewer = s.fewer }
 
 pub give_up-requires : goal.give_up-requires
@@ -41,7 +41,7 @@ returns c =
     let r = c.requires in
     let some = r.some in
     let within = r.within in
-    let same = ap (λ (l : List Part). length (joined l)) (same_first c.args.spans.now.items c.index.result.now c.remove-first.result (omega arith) c.index.ensures c.remove-first.ensures.value) in
+    let same = ap (λ (l : List Part). length (joined l)) (same_first c.args.spans.now.items c.index-as_slice-0.result.now c.remove-first.result (omega arith) (c.index-as_slice-0.ensures ∙ ap (λ (l : List (List Part)). get_or l 0 c.index-as_slice-0.result.now) c.as_slice.ensures) c.remove-first.ensures.value) in
     let len = c.len-len.ensures in
     let s = front_whole c.args.seat.now c.give_up.new.seat c.args.spans.now.items c.remove-first.new.self.items c.remove-first.result c.args.n c.len-len.result _ (record { chain = r.chain; listed = r.listed }) r.full r.some r.within
     c.remove-first.ensures.value (omega arith) c.if-n-len.false refl c.remove-first.ensures.items c.give_up.ensures.spent in

@@ -11,6 +11,7 @@ pub unwrap-requires : goal.unwrap-requires
 unwrap-requires c =
     let few = few_spans c.tail.inside.spans.items c.tail.invariant.1 in
     let v : length (all_parts c.tail.inside.spans.items) ≡ length c.args.tail.parts = ap (λ (x : ChainSeen). length x.parts) c.tail.view_is in
+    let some : 0 < length c.tail.inside.spans.items = search rules in
     let r = c.requires.room in
     let room = ap (λ (x : ChainSeen). x.room) c.self.view_is in
     c.append.ensures.succeeds (omega arith)
