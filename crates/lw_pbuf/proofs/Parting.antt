@@ -23,33 +23,15 @@ pub record Parted (ss ts : List (List Part)) (r : List Part) : Type 0 where
   pub full : NoneEmpty ts
 
 -- with its span, where that has no other
-pub part_whole : (ss ts : List (List Part)) (r : List Part) → NoneEmpty ss → 0 < length ss → r ≡ get_or ss 0 r → length r ≡ 1 → ts ≡ remove ss 0 → Parted ss ts r
-part_whole [] ts r full there is one removed = absurd (omega arith)
-part_whole ([] ∷ xs) ts r full there is one removed = absurd (let e = ap (λ (l : List Part). length l) is in omega arith)
-part_whole ((y ∷ []) ∷ xs) ts r full there is one removed = record {
+pub part_whole : (ss ts : List (List Part)) (p r : List Part) → NoneEmpty ss → 0 < length ss → p ≡ get_or ss 0 p → length p ≡ 1 → r ≡ get_or ss 0 r → ts ≡ remove ss 0 → Parted ss ts r
+part_whole [] ts p r full there at one is removed = absurd (omega arith)
+part_whole ([] ∷ xs) ts p r full there at one is removed = absurd (let e = ap (λ (l : List Part). length l) at in omega arith)
+part_whole ((y ∷ []) ∷ xs) ts p r full there at one is removed = record {
   first = is;
   rest = ap (λ (l : List (List Part)). all_parts l) removed;
   full = subst (λ (l : List (List Part)). NoneEmpty l) (sym removed) (All-tail (λ (l : List Part). 0 < length l) (y ∷ []) xs full);
 }
-part_whole ((y ∷ z ∷ zs) ∷ xs) ts r full there is one removed = absurd (let e = ap (λ (l : List Part). length l) is in omega arith)
-
--- or off its span
-pub part_first : (ss : List (List Part)) (p q r : List Part) → NoneEmpty ss → 0 < length ss → p ≡ get_or ss 0 p → 1 < length p → r ≡ take 1 p → q ≡ drop 1 p → Parted ss (set ss 0 q) r
-part_first [] p q r full there is many taken left = absurd (omega arith)
-part_first ([] ∷ xs) p q r full there is many taken left = absurd (let e = ap (λ (l : List Part). length l) is in omega arith)
-part_first ((y ∷ []) ∷ xs) p q r full there is many taken left = absurd (let e = ap (λ (l : List Part). length l) is in omega arith)
-part_first ((y ∷ z ∷ zs) ∷ xs) p q r full there is many taken left =
-    let behind : q ≡ z ∷ zs = left ∙ ap (drop 1) is in
-    record {
-      first = taken ∙ ap (take 1) is;
-      rest = ap (λ (l : List Part). l ++ all_parts xs) behind;
-      full = All-cons (λ (l : List Part). 0 < length l) q xs (let e = ap (λ (l : List Part). length l) behind in omega arith) (All-tail (λ (l : List Part). 0 < length l) (y ∷ z ∷ zs) xs full);
-    }
-
--- the same span in its place leaves the spans as they were
-pub set_same : (ss : List (List Part)) (p q : List Part) → p ≡ get_or ss 0 p → q ≡ p → set ss 0 q ≡ ss
-set_same [] p q is same = refl
-set_same (x ∷ xs) p q is same = ap (λ (l : List Part). l ∷ xs) (same ∙ is)
+part_whole ((y ∷ z ∷ zs) ∷ xs) ts p r full there at one is removed = absurd (let e = ap (λ (l : List Part). length l) at in omega arith)
 
 -- a chain of one span
 pub one_chain : (t : TableId) (p : List Part) (ss : List (List Part)) → ss ≡ p ∷ [] → 0 < length p → IsChain t p → IsChain t (all_parts ss) × NoneEmpty ss

@@ -10,7 +10,7 @@ cut_front-requires c =
     let some = r.some in
     let within = r.within in
     let m = first_span c.args.seat.now c.args.spans.now.items c.index-as_mut_slice-0.result.now (record { chain = r.chain; listed = r.listed }) (omega arith) (c.index-as_mut_slice-0.ensures.value ∙ ap (λ (l : List (List Part)). get_or l 0 c.index-as_mut_slice-0.result.now) c.as_mut_slice.ensures.value) in
-    let same = ap (λ (l : List Part). length (joined l)) (same_first c.args.spans.now.items c.index-as_slice-0.result.now c.index-as_mut_slice-0.result.now (omega arith) (c.index-as_slice-0.ensures ∙ ap (λ (l : List (List Part)). get_or l 0 c.index-as_slice-0.result.now) c.as_slice.ensures) (c.index-as_mut_slice-0.ensures.value ∙ ap (λ (l : List (List Part)). get_or l 0 c.index-as_mut_slice-0.result.now) c.as_mut_slice.ensures.value)) in
+    let same = ap (λ (l : List Part). length (joined l)) (same_first c.args.spans.now.items c.index-as_slice-0.result c.index-as_mut_slice-0.result.now (omega arith) (c.index-as_slice-0.is ∙ ap (λ (l : List (List Part)). get_or l 0 c.index-as_slice-0.result) c.as_slice.ensures) (c.index-as_mut_slice-0.ensures.value ∙ ap (λ (l : List (List Part)). get_or l 0 c.index-as_mut_slice-0.result.now) c.as_mut_slice.ensures.value)) in
     let len = c.len-len.ensures in
     let short = c.if-n-len.true in
     record { within = omega arith; chain = m.chain; listed = m.listed }
@@ -21,7 +21,7 @@ returns-then-n-len c =
     let e = c.cut_front.ensures in
     let some = r.some in
     let within = r.within in
-    let same = ap (λ (l : List Part). length (joined l)) (same_first c.args.spans.now.items c.index-as_slice-0.result.now c.index-as_mut_slice-0.result.now (omega arith) (c.index-as_slice-0.ensures ∙ ap (λ (l : List (List Part)). get_or l 0 c.index-as_slice-0.result.now) c.as_slice.ensures) (c.index-as_mut_slice-0.ensures.value ∙ ap (λ (l : List (List Part)). get_or l 0 c.index-as_mut_slice-0.result.now) c.as_mut_slice.ensures.value)) in
+    let same = ap (λ (l : List Part). length (joined l)) (same_first c.args.spans.now.items c.index-as_slice-0.result c.index-as_mut_slice-0.result.now (omega arith) (c.index-as_slice-0.is ∙ ap (λ (l : List (List Part)). get_or l 0 c.index-as_slice-0.result) c.as_slice.ensures) (c.index-as_mut_slice-0.ensures.value ∙ ap (λ (l : List (List Part)). get_or l 0 c.index-as_mut_slice-0.result.now) c.as_mut_slice.ensures.value)) in
     let len = c.len-len.ensures in
     let short = c.if-n-len.true in
     let s = front_part c.args.seat.now c.cut_front.new.seat c.args.spans.now.items _ c.index-as_mut_slice-0.result.now c.cut_front.new.self c.args.n (record { chain = r.chain; listed = r.listed }) r.full r.some r.within
@@ -41,7 +41,7 @@ returns c =
     let r = c.requires in
     let some = r.some in
     let within = r.within in
-    let same = ap (λ (l : List Part). length (joined l)) (same_first c.args.spans.now.items c.index-as_slice-0.result.now c.remove-first.result (omega arith) (c.index-as_slice-0.ensures ∙ ap (λ (l : List (List Part)). get_or l 0 c.index-as_slice-0.result.now) c.as_slice.ensures) c.remove-first.ensures.value) in
+    let same = ap (λ (l : List Part). length (joined l)) (same_first c.args.spans.now.items c.index-as_slice-0.result c.remove-first.result (omega arith) (c.index-as_slice-0.is ∙ ap (λ (l : List (List Part)). get_or l 0 c.index-as_slice-0.result) c.as_slice.ensures) c.remove-first.ensures.value) in
     let len = c.len-len.ensures in
     let s = front_whole c.args.seat.now c.give_up.new.seat c.args.spans.now.items c.remove-first.new.self.items c.remove-first.result c.args.n c.len-len.result _ (record { chain = r.chain; listed = r.listed }) r.full r.some r.within
     c.remove-first.ensures.value (omega arith) c.if-n-len.false refl c.remove-first.ensures.items c.give_up.ensures.spent in
