@@ -121,6 +121,11 @@ pub first_span : (h : SeatSeen) (ss : List (List Part)) (p : List Part) → MayG
 first_span h [] p m some is = absurd (omega arith)
 first_span h (x ∷ xs) p m some is = subst (λ (y : List Part). MayGive h y) (sym is) (give-front h x (all_parts xs) m)
 
+-- and of a slice of them
+pub first_lent : (ss lent : List (List Part)) (p : List Part) → 0 < length (joined (all_parts ss)) → lent ≡ ss → get_or lent 0 p ≡ get_or ss 0 (get_or lent 0 p)
+first_lent [] lent p some same = absurd (omega arith)
+first_lent (x ∷ xs) lent p some same = ap (λ (l : List (List Part)). get_or l 0 p) same
+
 pub same_first : (ss : List (List Part)) (p q : List Part) → 0 < length (joined (all_parts ss)) → p ≡ get_or ss 0 p → q ≡ get_or ss 0 q → p ≡ q
 same_first [] p q some a b = absurd (omega arith)
 same_first (x ∷ xs) p q some a b = a ∙ sym b

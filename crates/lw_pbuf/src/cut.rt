@@ -1,5 +1,6 @@
 //! Cuts: octets that leave a chain, and the pbufs that go with them.
-ghost use Rattle.std.specs.Prelude.{◌≡◌, ◌+◌, ◌-◌, ◌<◌, ◌≤◌, ◌++◌, length, drop, take, true};
+ghost use Rattle.std.specs.Prelude.{◌≡◌, ◌+◌, ◌-◌, ◌<◌, ◌≤◌, ◌↔◌, ◌++◌, length, drop, take, true, IsSome, OnSome};
+ghost use Rattle.std.specs.Option.{option_to_list};
 ghost use Rattle.lw_payload.specs.Views.{Slot};
 ghost use Rattle.pbuf_seats.specs.Kept.{rows_of};
 ghost use Rattle.pbuf_spans.specs.Parts.{joined, rows_in, all_own, IsChain};
@@ -140,12 +141,25 @@ fn back_off(spans: &mut SmallVec<Span, 1>, seat: &mut PoolSeat, n: u32) -> u32
 {
     let mut left = n;
     while left > 0 {
-        let Some(last) = spans.pop() else {
+        let Some(last) = pop_last(spans) else {
             return left;
         };
         left = cut_last(spans, last, seat, left);
     }
     left
+}
+
+// Takes the last span off. There is a place for it then.
+fn pop_last(spans: &mut SmallVec<Span, 1>) -> Option<Span>
+    ensures items { spans.old.items ≡ spans.new.items ++ option_to_list result }
+    ensures variant { IsSome result ↔ (0 < length spans.old.items) }
+    ensures room { OnSome result (length spans.new.items < spans.new.capacity) }
+    ensures capacity { spans.new.capacity ≡ spans.old.capacity }
+{
+    if spans.len() == 0 {
+        return None;
+    }
+    spans.pop()
 }
 
 // Cuts n octets off a span that stood behind these, and puts it back where any are left; how many octets are still to be cut.

@@ -5,7 +5,7 @@ use Rattle.pbuf_spans.specs.Parts.{Part, joined, rows_in, all_own, IsChain}
 use Rattle.lw_pbuf.specs.Chains.{ChainSeen, all_parts, NoneEmpty}
 use Rattle.pbuf_spans.specs.Cuts.{IsCutTo, IsRewritten}
 use Rattle.lw_pbuf.proofs.Joined.{few_parts}
-use Rattle.lw_pbuf.proofs.Rewriting.{refilled, rewritten_chain, rewritten_cut, rewritten_rows, rewritten_some}
+use Rattle.lw_pbuf.proofs.Rewriting.{rewritten_back, rewritten_chain, rewritten_cut, rewritten_rows, rewritten_some}
 use Rattle.lw_pbuf.proofs.chain.Chain.refill.Goals as goal
 
 pub write_over-requires : goal.write_over-requires
@@ -23,48 +23,51 @@ write_over-requires c =
       exact = omega arith;
     }
 
-same : (c : goal.After-write_over) → IsRewritten (all_parts c.self.inside.spans.items) (all_parts c.write_over.new.spans)
-same c = subst (λ (l : List (List Part)). IsRewritten (all_parts l) (all_parts c.write_over.new.spans)) c.as_mut_slice.ensures.value c.write_over.ensures.same
-
-whole : (c : goal.After-write_over) → refill (length c.self.inside.spans.items) c.self.inside.spans.items c.write_over.new.spans ≡ c.write_over.new.spans
-whole c = refilled (length c.self.inside.spans.items) c.self.inside.spans.items c.write_over.new.spans refl (c.write_over.auto.spans ∙ ap (λ (l : List (List Part)). length l) c.as_mut_slice.ensures.value)
-
 pub invariant_of-self : goal.invariant_of-self
-invariant_of-self c = (
-  subst (λ (l : List (List Part)). IsChain (arc_value c.self.inside.counts) (all_parts l)) (sym (whole c)) (rewritten_chain (arc_value c.self.inside.counts) (all_parts c.self.inside.spans.items) (all_parts c.write_over.new.spans) (same c) c.self.invariant.0),
-  subst (λ (l : List (List Part)). NoneEmpty l) (sym (whole c)) (c.write_over.ensures.full (subst (λ (l : List (List Part)). NoneEmpty l) (sym c.as_mut_slice.ensures.value) c.self.invariant.1)),
+invariant_of-self c =
+    let b = rewritten_back c.self.inside.spans.items c.as_mut_slice.result.now c.write_over.new.spans c.as_mut_slice.ensures.value c.write_over.auto.spans c.write_over.ensures.same in
+    (
+  subst (λ (l : List (List Part)). IsChain (arc_value c.self.inside.counts) (all_parts l)) (sym b.0) (rewritten_chain (arc_value c.self.inside.counts) (all_parts c.self.inside.spans.items) (all_parts c.write_over.new.spans) b.1 c.self.invariant.0),
+  subst (λ (l : List (List Part)). NoneEmpty l) (sym b.0) (c.write_over.ensures.full (subst (λ (l : List (List Part)). NoneEmpty l) (sym c.as_mut_slice.ensures.value) c.self.invariant.1)),
 )
 
 pub returns-clause-octets : goal.returns-clause-octets
-returns-clause-octets c = ap (λ (l : List (List Part)). joined (all_parts l)) (whole c) ∙ c.write_over.ensures.octets
+returns-clause-octets c =
+    let b = rewritten_back c.self.inside.spans.items c.as_mut_slice.result.now c.write_over.new.spans c.as_mut_slice.ensures.value c.write_over.auto.spans c.write_over.ensures.same in
+    ap (λ (l : List (List Part)). joined (all_parts l)) b.0 ∙ c.write_over.ensures.octets
 
 pub returns-clause-cut : goal.returns-clause-cut
 returns-clause-cut c =
-    subst (λ (l : List (List Part)). IsCutTo c.args.seat.now c.cut_back.new.seat c.args.self.now.parts (all_parts l)) (sym (whole c))
+    let b = rewritten_back c.self.inside.spans.items c.as_mut_slice.result.now c.write_over.new.spans c.as_mut_slice.ensures.value c.write_over.auto.spans c.write_over.ensures.same in
+    subst (λ (l : List (List Part)). IsCutTo c.args.seat.now c.cut_back.new.seat c.args.self.now.parts (all_parts l)) (sym b.0)
     (rewritten_cut c.args.seat.now c.cut_back.new.seat c.args.self.now.parts (all_parts c.self.inside.spans.items) (all_parts c.write_over.new.spans)
-    (subst (λ (x : ChainSeen). IsCutTo c.args.seat.now c.cut_back.new.seat c.args.self.now.parts x.parts) (sym c.self.view_is) c.cut_back.ensures.cut) (same c))
+    (subst (λ (x : ChainSeen). IsCutTo c.args.seat.now c.cut_back.new.seat c.args.self.now.parts x.parts) (sym c.self.view_is) c.cut_back.ensures.cut) b.1)
 
 pub returns-clause-room : goal.returns-clause-room
 returns-clause-room c =
-    let e = ap (λ (l : List (List Part)). length l) (whole c) in
+    let b = rewritten_back c.self.inside.spans.items c.as_mut_slice.result.now c.write_over.new.spans c.as_mut_slice.ensures.value c.write_over.auto.spans c.write_over.ensures.same in
+    let e = ap (λ (l : List (List Part)). length l) b.0 in
     let n = c.write_over.auto.spans in
     let v = ap (λ (l : List (List Part)). length l) c.as_mut_slice.ensures.value in
     let r = ap (λ (x : ChainSeen). x.room) c.self.view_is in
-    let b = c.cut_back.ensures.room in
+    let more = c.cut_back.ensures.room in
     omega arith
 
 pub returns-clause-of_seat : goal.returns-clause-of_seat
-returns-clause-of_seat c = record {
+returns-clause-of_seat c =
+    let b = rewritten_back c.self.inside.spans.items c.as_mut_slice.result.now c.write_over.new.spans c.as_mut_slice.ensures.value c.write_over.auto.spans c.write_over.ensures.same in
+    record {
   table = ap (λ (x : ChainSeen). x.table) c.self.view_is ∙ c.cut_back.ensures.of_seat.table;
   listed = λ s.
       let a = c.cut_back.ensures.of_seat.listed s in
-      let b : rows_in (all_parts c.self.inside.spans.items) s ≡ rows_in c.cut_back.new.self.parts s = ap (λ (x : ChainSeen). rows_in x.parts s) c.self.view_is in
-      let d = rewritten_rows (all_parts c.self.inside.spans.items) (all_parts c.write_over.new.spans) (same c) s in
-      let e = ap (λ (l : List (List Part)). rows_in (all_parts l) s) (whole c) in
+      let v : rows_in (all_parts c.self.inside.spans.items) s ≡ rows_in c.cut_back.new.self.parts s = ap (λ (x : ChainSeen). rows_in x.parts s) c.self.view_is in
+      let d = rewritten_rows (all_parts c.self.inside.spans.items) (all_parts c.write_over.new.spans) b.1 s in
+      let e = ap (λ (l : List (List Part)). rows_in (all_parts l) s) b.0 in
       omega arith;
 }
 
 pub returns-clause-few : goal.returns-clause-few
 returns-clause-few c =
-    subst (λ (l : List (List Part)). length (all_parts l) ≤ length (joined (all_parts l))) (sym (whole c))
-    (few_parts (all_parts c.write_over.new.spans) (rewritten_some (all_parts c.self.inside.spans.items) (all_parts c.write_over.new.spans) (same c) c.self.invariant.0.some))
+    let b = rewritten_back c.self.inside.spans.items c.as_mut_slice.result.now c.write_over.new.spans c.as_mut_slice.ensures.value c.write_over.auto.spans c.write_over.ensures.same in
+    subst (λ (l : List (List Part)). length (all_parts l) ≤ length (joined (all_parts l))) (sym b.0)
+    (few_parts (all_parts c.write_over.new.spans) (rewritten_some (all_parts c.self.inside.spans.items) (all_parts c.write_over.new.spans) b.1 c.self.invariant.0.some))
