@@ -18,14 +18,6 @@ listed-front h xs ys listed s = let l = listed s in let a = rows_in-append xs ys
 pub listed-back : (h : SeatSeen) (xs ys : List Part) → ((s : Slot) → rows_in (xs ++ ys) s ≤ rows_of h.kept s) → (s : Slot) → rows_in ys s ≤ rows_of h.kept s
 listed-back h xs ys listed s = let l = listed s in let a = rows_in-append xs ys s in omega arith
 
--- pbufs that were given up, and others after them
-pub spent-then : (h k l : SeatSeen) (xs ys : List Part) → IsSpent h k xs → IsSpent k l ys → IsSpent h l (xs ++ ys)
-spent-then h k l xs ys a b = record {
-  rows = λ s. let r = a.rows s in let q = b.rows s in let e = rows_in-append xs ys s in omega arith;
-  weight = let r = a.weight in let q = b.weight in let e = weight_in-append xs ys in omega arith;
-  same = same_then h k l a.same b.same;
-}
-
 -- a chain stays one under the counts of a seat that took pbufs back
 pub chain-later : (h k : SeatSeen) (xs ys : List Part) → IsSpent h k xs → IsChain h.holder.table ys → IsChain k.holder.table ys
 chain-later h k xs ys a chain = subst (λ (t : TableId). IsChain t ys) (sym a.same.table) chain
