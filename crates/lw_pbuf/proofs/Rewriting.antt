@@ -149,6 +149,9 @@ pub refilled : (n : ℕ) (ps qs : List (List Part)) → n ≡ length ps → leng
 refilled n ps qs all same =
     ap (λ (l : List (List Part)). take n (qs ++ l)) (drop_all (length qs) ps (omega arith)) ∙ (ap (take n) (append-nil qs) ∙ take_all n qs (omega arith))
 
+pub refilled_same : (ps qs : List (List Part)) → qs ≡ ps → refill (length ps) ps qs ≡ ps
+refilled_same ps qs same = refilled (length ps) ps qs refl (ap (λ (l : List (List Part)). length l) same) ∙ same
+
 -- so are spans of which the first is another now
 pub set_back : (ss lent : List (List Part)) (q : List Part) → lent ≡ ss → refill (length ss) ss (set lent 0 q) ≡ set ss 0 q
 set_back ss lent q same =
