@@ -23,10 +23,10 @@ invariant_of-self-2 c =
     let taken : c.in_ok-first.first ≡ take 1 (all_parts c.self.inside.spans.items) = search rules in
     let count : length all ≡ length c.args.self.now.parts = ap (λ (x : ChainSeen). length x.parts) c.self.view_is in
     let some : 0 < length c.in_ok-first.first = (
-      let n = c.clen.ensures.exact in
-      let many = c.if-clen-le1.false in
-      let e = ap (λ (l : List Part). length l) taken in
-      let k = length-take 1 all in
-      omega arith
+    let n = c.clen.ensures.exact in
+    let many = c.if-clen-le1.false in
+    let e = ap (λ (l : List Part). length l) taken in
+    let k = length-take 1 all in
+    omega arith
     ) in
     one_chain (arc_value c.self.inside.counts) c.in_ok-first.first c.replace-spans.new.dest.items one some (chain_one (arc_value c.self.inside.counts) all c.in_ok-first.first taken c.self.invariant.0)

@@ -25,11 +25,10 @@ write_over-requires c =
 
 pub invariant_of-self : goal.invariant_of-self
 invariant_of-self c =
-    let b = rewritten_back c.self.inside.spans.items c.as_mut_slice.result.now c.write_over.new.spans c.as_mut_slice.ensures.value c.write_over.auto.spans c.write_over.ensures.same in
-    (
-  subst (λ (l : List (List Part)). IsChain (arc_value c.self.inside.counts) (all_parts l)) (sym b.0) (rewritten_chain (arc_value c.self.inside.counts) (all_parts c.self.inside.spans.items) (all_parts c.write_over.new.spans) b.1 c.self.invariant.0),
-  subst (λ (l : List (List Part)). NoneEmpty l) (sym b.0) (c.write_over.ensures.full (subst (λ (l : List (List Part)). NoneEmpty l) (sym c.as_mut_slice.ensures.value) c.self.invariant.1)),
-)
+    let b = rewritten_back c.self.inside.spans.items c.as_mut_slice.result.now c.write_over.new.spans c.as_mut_slice.ensures.value c.write_over.auto.spans c.write_over.ensures.same in (
+      subst (λ (l : List (List Part)). IsChain (arc_value c.self.inside.counts) (all_parts l)) (sym b.0) (rewritten_chain (arc_value c.self.inside.counts) (all_parts c.self.inside.spans.items) (all_parts c.write_over.new.spans) b.1 c.self.invariant.0),
+      subst (λ (l : List (List Part)). NoneEmpty l) (sym b.0) (c.write_over.ensures.full (subst (λ (l : List (List Part)). NoneEmpty l) (sym c.as_mut_slice.ensures.value) c.self.invariant.1)),
+    )
 
 pub returns-clause-octets : goal.returns-clause-octets
 returns-clause-octets c =
@@ -57,14 +56,14 @@ pub returns-clause-of_seat : goal.returns-clause-of_seat
 returns-clause-of_seat c =
     let b = rewritten_back c.self.inside.spans.items c.as_mut_slice.result.now c.write_over.new.spans c.as_mut_slice.ensures.value c.write_over.auto.spans c.write_over.ensures.same in
     record {
-  table = ap (λ (x : ChainSeen). x.table) c.self.view_is ∙ c.cut_back.ensures.of_seat.table;
-  listed = λ s.
-      let a = c.cut_back.ensures.of_seat.listed s in
-      let v : rows_in (all_parts c.self.inside.spans.items) s ≡ rows_in c.cut_back.new.self.parts s = ap (λ (x : ChainSeen). rows_in x.parts s) c.self.view_is in
-      let d = rewritten_rows (all_parts c.self.inside.spans.items) (all_parts c.write_over.new.spans) b.1 s in
-      let e = ap (λ (l : List (List Part)). rows_in (all_parts l) s) b.0 in
-      omega arith;
-}
+      table = ap (λ (x : ChainSeen). x.table) c.self.view_is ∙ c.cut_back.ensures.of_seat.table;
+      listed = λ s.
+          let a = c.cut_back.ensures.of_seat.listed s in
+          let v : rows_in (all_parts c.self.inside.spans.items) s ≡ rows_in c.cut_back.new.self.parts s = ap (λ (x : ChainSeen). rows_in x.parts s) c.self.view_is in
+          let d = rewritten_rows (all_parts c.self.inside.spans.items) (all_parts c.write_over.new.spans) b.1 s in
+          let e = ap (λ (l : List (List Part)). rows_in (all_parts l) s) b.0 in
+          omega arith;
+    }
 
 pub returns-clause-few : goal.returns-clause-few
 returns-clause-few c =
