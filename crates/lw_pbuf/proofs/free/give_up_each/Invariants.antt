@@ -1,6 +1,6 @@
 use Rattle.std.proofs.Common.{length}
 use Rattle.lw_pbuf.proofs.Freed.{Frees}
-use Rattle.lw_pbuf.proofs.free.give_up_spans.Given as goal
+use Rattle.lw_pbuf.proofs.free.give_up_each.Given as goal
 
 abbrev pub invariant-loop-span : goal.invariant-loop-span
 invariant-loop-span l = Frees l.fn.seat l.seat l.fn.spans.items l.spans.items l.ended
