@@ -1,2 +1,0 @@
-pub mod GoesLaws
-pub mod RunsLaws
