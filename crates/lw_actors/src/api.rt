@@ -4,13 +4,14 @@ ghost use Rattle.lw_transcript.specs.declared.lines.Evidence.{Evidence as Eviden
 ghost use Rattle.lw_actors.specs.declared.api.Step.{Step as StepValue};
 ghost use Rattle.lw_actors.specs.Calls.{Goes};
 
+use call_types::Outcome;
 use lw_script::Call;
-use lw_transcript::{Evidence, Outcome};
+use lw_transcript::Evidence;
 pub use std::alloc::AllocError as NoMemory;
 use std::alloc::Global;
 
 /// How far a try of a call came: it ended with this result.
-#[derive(Clone, Copy, Debug, PartialEq, Eq)]
+#[derive(Drop)]
 pub enum Step {
     Did(Outcome),
 }

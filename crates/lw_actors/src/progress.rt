@@ -1,5 +1,6 @@
+use call_types::Outcome;
 use lw_base::Series;
-use lw_transcript::{EvidenceList, Outcome};
+use lw_transcript::EvidenceList;
 
 /// A call that ended: what it saw and did.
 #[derive(Drop)]

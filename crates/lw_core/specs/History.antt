@@ -1,11 +1,18 @@
 -- Histories of the serial stack.
 use Rattle.std.specs.Prelude.{ℕ, ◌≡◌, false, List, [], ◌∷◌}
 use Rattle.lw_events.specs.declared.event.Event.{Event}
+use Rattle.lw_events.specs.declared.event.Event.TheVariants.{Frame, Stop}
 use Rattle.lw_events.specs.declared.event.Reply.{Reply}
 use Rattle.lw_events.specs.declared.entry.Entry.{Entry}
 use Rattle.lw_events.specs.Events.{Grants, grants_of}
 use Rattle.lw_core.specs.State.{State}
 use Rattle.lw_core.specs.Step.{step}
+
+-- the events that the stack has by now: a frame, and the end of the run
+abbrev pub IsServed : {P : Type 0} → Event P → Type 0
+IsServed (Frame p) = Unit {0}
+IsServed Stop = Unit {0}
+IsServed other = ⊥
 
 -- the entry of an event that is granted this: its answer, posts and frames are those of the serial step
 abbrev pub entry_of : State → ℕ → Event (List ℕ) → Grants → Entry
@@ -19,10 +26,12 @@ pub record IsStep (s : State) (actor : ℕ) (event : Event (List ℕ)) (entry : 
   pub answered : reply ≡ (step s event (grants_of entry)).reply
   pub moved : t ≡ (step s event (grants_of entry)).state
 
--- a replay: each entry has the answer, the posts and the frames of the serial step of the state that those before it leave
+-- a replay: each entry is of an event that the stack has, with the answer, the posts and the frames of the serial step of the
+-- state that those before it leave
 abbrev pub IsReplay : State → List Entry → Type 0
 IsReplay s [] = Unit {0}
-IsReplay s (e ∷ es) = (e ≡ entry_of s e.actor e.event (grants_of e)) × IsReplay (step s e.event (grants_of e)).state es
+IsReplay s (e ∷ es) =
+    IsServed e.event × (e ≡ entry_of s e.actor e.event (grants_of e)) × IsReplay (step s e.event (grants_of e)).state es
 
 -- all that an event asks for is granted, and it posts nothing
 abbrev pub granted : Grants

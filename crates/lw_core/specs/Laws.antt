@@ -15,7 +15,7 @@ use Rattle.lw_netif.specs.Frames.{frames_left}
 use Rattle.lw_arp.specs.declared.entries.EntryState.TheVariants.{Stable}
 use Rattle.lw_arp.specs.Neighbours.{state_of}
 use Rattle.lw_link.specs.Way.{arp_reply, packet_frame, sent_head}
-use Rattle.lw_core.specs.Datagrams.{is_sender}
+use Rattle.lw_netif.specs.Hosts.{is_host}
 use Rattle.lw_core.specs.State.{State}
 use Rattle.lw_core.specs.Step.{frame_step}
 
@@ -42,7 +42,7 @@ ArpLaw = (s : State) (e : EthHead) (p : ArpPacket) (padding : List ℕ)
 pub record ReachesUs (net : Net) (h : IpHead) (n : ℕ) : Type 0 where
   pub proto : h.proto ≡ 1
   pub dst : h.dst ≡ net.ip
-  pub src : is_sender net h.src ≡ true
+  pub src : is_host net h.src ≡ true
   pub whole : h.mf ≡ false
   pub first : h.offset ≡ 0
   pub fits : FitsIp h n

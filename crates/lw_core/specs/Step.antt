@@ -60,7 +60,28 @@ abbrev pub frame_granted : State → List ℕ → Bool → Outcome
 frame_granted s octets true = dropped s
 frame_granted s octets false = frame_step s octets
 
+-- the events that the stack has by now
+pub data Served : Type 0 where
+  Fed : List ℕ → Served
+  Ended : Served
+  Unserved : Served
+
+-- a frame and the end of the run are served, and no other event yet
+abbrev pub served : Event (List ℕ) → Served
+served (Frame octets) = Fed octets
+served Stop = Ended
+served other = Unserved
+
+-- an event that isn't served changes nothing
+abbrev pub unserved : State → Outcome
+unserved s = record { state = s; reply = Done; short = false; posts = []; frames = [] }
+
+-- the step of an event that is served
+abbrev pub served_step : State → Served → Grants → Outcome
+served_step s (Fed octets) g = frame_granted s octets g.short
+served_step s Ended g = stopped s
+served_step s Unserved g = unserved s
+
 -- the serial step of an event, by what it is granted; only a frame needs RAM, and no event posts
 abbrev pub step : State → Event (List ℕ) → Grants → Outcome
-step s (Frame octets) g = frame_granted s octets g.short
-step s Stop g = stopped s
+step s event g = served_step s (served event) g

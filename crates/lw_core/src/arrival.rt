@@ -1,11 +1,12 @@
 //! What a frame brings: its octets are read into plain values, and nothing is answered.
 ghost use Rattle.std.specs.Prelude.{◌≡◌, ℕ, ◌-◌, length};
 ghost use Rattle.lw_core.specs.Arrivals.{arp_brings, arrival_of, data_brings, datagram_brings, is_taken, Holds};
-ghost use Rattle.lw_core.specs.Datagrams.{is_accepted, is_broadcast, is_fragment, is_sender};
+ghost use Rattle.lw_core.specs.Datagrams.{is_accepted, is_fragment};
 ghost use Rattle.lw_wire.specs.Arp.{arp_of};
 ghost use Rattle.lw_wire.specs.Ip.{ip_of};
 
-use lw_base::{ArpPacket, Ip, IpHead, Mac, Net};
+use lw_base::{ArpPacket, IpHead, Mac, Net};
+use lw_netif::{is_broadcast, is_host};
 use lw_wire::{read_arp, read_eth, read_ip};
 
 /// The octets of an Ethernet head.
@@ -87,7 +88,7 @@ fn datagram_brings(net: &Net, octets: &[u8]) -> Arrival
 fn is_accepted(net: &Net, head: &IpHead) -> bool
     ensures { result ≡ is_accepted net.now head.now }
 {
-    (head.dst.0 == net.ip.0 || is_broadcast(net, head.dst)) && is_sender(net, head.src)
+    (head.dst.0 == net.ip.0 || is_broadcast(net, head.dst)) && is_host(net, head.src)
 }
 
 /// Whether a datagram is a fragment of one.
@@ -95,16 +96,4 @@ pub fn is_fragment(head: &IpHead) -> bool
     ensures { result ≡ is_fragment head.now }
 {
     head.mf || head.offset != 0
-}
-
-fn is_sender(net: &Net, ip: Ip) -> bool
-    ensures { result ≡ is_sender net.now ip }
-{
-    !is_broadcast(net, ip) && ip.0 >> 28 != 0xe
-}
-
-fn is_broadcast(net: &Net, ip: Ip) -> bool
-    ensures { result ≡ is_broadcast net.now ip }
-{
-    ip.0 != net.ip.0 && (ip.0 == u32::MAX || ip.0 == net.ip.0 | !net.mask.0)
 }

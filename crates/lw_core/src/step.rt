@@ -8,7 +8,7 @@ ghost use Rattle.lw_events.specs.Events.{payloads_in, text_of, IsSameEvent};
 ghost use Rattle.lw_events.specs.declared.event.Event.{Event};
 ghost use Rattle.lw_arp.specs.Neighbours.{packets};
 ghost use Rattle.lw_core.specs.State.{opening};
-ghost use Rattle.lw_core.specs.History.{IsStep};
+ghost use Rattle.lw_core.specs.History.{IsServed, IsStep};
 ghost use Rattle.lw_core.specs.Held.{held_by, IsSameCore, IsTied, MakesRam, RamIsShort};
 
 use crate::NoMemory;
@@ -76,6 +76,7 @@ impl<P: Payload> Core<P> {
         event: Event<P>,
         home: &mut P::Home,
     ) -> Result<(Entry, Reply), (NoMemory, Event<P>)>
+        requires served { IsServed event }
         requires owned { IsOwned (P.home_seen home.old) (total P.seen (P.home_seen home.old).pools.family (payloads_in event ++ held_by self.old)) }
         requires ram { MakesRam (P.home_seen home.old) }
         ensures ok { IfOk result (λ r. IsStep self.old.state actor (text_of P.seen event) r.0 r.1 self.new.state) }
@@ -91,6 +92,7 @@ impl<P: Payload> Core<P> {
                 self.layers.words.stopped = true;
                 Ok(entry(actor, Event::Stop, nothing(alloc, false)))
             }
+            _ => unreachable!(),
         }
     }
 

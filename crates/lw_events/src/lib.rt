@@ -6,4 +6,4 @@ mod entry;
 mod event;
 
 pub use entry::{Entry, ItemText, Post, PostList};
-pub use event::{Event, EventText, Reply};
+pub use event::{Event, EventText, FdOption, Handle, Proto, Reply, SendData, Which};

@@ -77,15 +77,3 @@ copies_last wanted rest out skip at c none =
     let e = c.enough in
     let nothing : take (length out - at) (drop skip rest) ≡ [] = nil_from_length (take (length out - at) (drop skip rest)) (let x = length-take (length out - at) (drop skip rest) in omega arith) in
     sym (append-nil out) ∙ ((λ i. sym (take_all at out (omega arith)) i ++ sym nothing i) ∙ c.so_far)
-
--- the octets of the first pbufs, and those of the others behind them
-pub copied_both : (o rest front back : List ℕ) (from n begin count : ℕ) → begin ≡ min from (length o) → count ≡ min (length o - begin) n → front ≡ slice_range o begin (begin + count)
-    → back ≡ slice_range rest (from - begin) ((from - begin) + (n - count)) → front ++ back ≡ slice_range (o ++ rest) from (from + n)
-copied_both o rest front back from n begin count b c first second =
-    let same : count ≡ min (length o - min from (length o)) n = c ∙ ap (λ (k : ℕ). min (length o - k) n) b in
-    let size : (begin + count) - begin ≡ count = omega arith in
-    let left : ((from - begin) + (n - count)) - (from - begin) ≡ n - count = omega arith in
-    let whole : (from + n) - from ≡ n = omega arith in
-    (λ i. (first ∙ ap (λ (k : ℕ). take k (drop begin o)) size) i ++ (second ∙ ap (λ (k : ℕ). take k (drop (from - begin) rest)) left) i)
-    ∙ ((λ i. take (same i) (drop (b i) o) ++ take (n - same i) (drop (from - b i) rest))
-    ∙ (sym (part_of o rest from n) ∙ ap (λ (k : ℕ). take k (drop from (o ++ rest))) (sym whole)))

@@ -9,7 +9,7 @@ use Rattle.pbuf_spans.specs.Parts.{Part, rows_in, IsChain, IsSpent}
 use Rattle.lw_pbuf.specs.Chains.{ChainSeen, all_parts, IsOf}
 use Rattle.lw_pbuf.proofs.Joined.{few_parts}
 use Rattle.pbuf_spans.proofs.Owning.{same_seat, same_then}
-use Rattle.lw_pbuf.proofs.Spans.{rows_in-append, weight_in-append, all_parts-push, chain-front, chain-back}
+use Rattle.lw_pbuf.proofs.Spans.{rows_in-append, weight_in-append, all_parts-push, chain-front, chain-back, all_parts-one}
 
 -- the rows that stand before others, and those others, are among the rows that the seat gave out
 pub listed-front : (h : SeatSeen) (xs ys : List Part) → ((s : Slot) → rows_in (xs ++ ys) s ≤ rows_of h.kept s) → (s : Slot) → rows_in xs s ≤ rows_of h.kept s
@@ -17,14 +17,6 @@ listed-front h xs ys listed s = let l = listed s in let a = rows_in-append xs ys
 
 pub listed-back : (h : SeatSeen) (xs ys : List Part) → ((s : Slot) → rows_in (xs ++ ys) s ≤ rows_of h.kept s) → (s : Slot) → rows_in ys s ≤ rows_of h.kept s
 listed-back h xs ys listed s = let l = listed s in let a = rows_in-append xs ys s in omega arith
-
--- pbufs that were given up, and others after them
-pub spent-then : (h k l : SeatSeen) (xs ys : List Part) → IsSpent h k xs → IsSpent k l ys → IsSpent h l (xs ++ ys)
-spent-then h k l xs ys a b = record {
-  rows = λ s. let r = a.rows s in let q = b.rows s in let e = rows_in-append xs ys s in omega arith;
-  weight = let r = a.weight in let q = b.weight in let e = weight_in-append xs ys in omega arith;
-  same = same_then h k l a.same b.same;
-}
 
 -- a chain stays one under the counts of a seat that took pbufs back
 pub chain-later : (h k : SeatSeen) (xs ys : List Part) → IsSpent h k xs → IsChain h.holder.table ys → IsChain k.holder.table ys
@@ -43,6 +35,14 @@ give-back h xs ys m = record { chain = chain-back h.holder.table xs ys m.chain; 
 
 pub give-few : (h : SeatSeen) (ps : List Part) → MayGive h ps → length ps < 2 ^ 32
 give-few h ps m = let f = few_parts ps m.chain.some in let s = m.chain.short in omega arith
+
+-- so may the one span of a chain
+pub one-few : (t : TableId) (spans : List (List Part)) (ps : List Part) → spans ≡ ps ∷ [] → IsChain t (all_parts spans) → length ps < 2 ^ 32
+one-few t spans ps is chain =
+    let f = few_parts (all_parts spans) chain.some in
+    let s = chain.short in
+    let e : length (all_parts spans) ≡ length ps = ap (λ (l : List (List Part)). length (all_parts l)) is ∙ ap (λ (l : List Part). length l) (all_parts-one ps) in
+    omega arith
 
 -- those that stood before the ones that were given up may still be
 pub give-then : (h k : SeatSeen) (xs ys : List Part) → MayGive h (xs ++ ys) → IsSpent h k ys → MayGive k xs

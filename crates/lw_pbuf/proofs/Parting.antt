@@ -1,46 +1,41 @@
 -- A chain without its first pbuf.
-use Rattle.std.proofs.Common.{◌≡◌, ◌<◌, List, [], ◌∷◌, ◌++◌, length, set, take, drop, get_or, sym, ap, ◌∙◌, subst, arith, append-nil, append_assoc}
-use Rattle.std.specs.List.{remove}
+use Rattle.std.proofs.Common.{◌≡◌, ◌<◌, List, [], ◌∷◌, ◌++◌, length, set, take, drop, get_or, refl, sym, ap, ◌∙◌, subst, arith}
+use Rattle.std.specs.List.{remove, refill}
 use Rattle.std.proofs.lemmas.List.{take-append-drop}
-use Rattle.std.proofs.lemmas.List.Elements.{All-nil, All-tail}
+use Rattle.std.proofs.lemmas.List.Elements.{All-nil, All-head, All-cons, All-tail}
 use Rattle.atomic_table.specs.Seated.{TableId}
 use Rattle.pbuf_spans.specs.Parts.{Part, IsChain}
 use Rattle.lw_pbuf.specs.Chains.{all_parts, NoneEmpty}
-use Rattle.lw_pbuf.proofs.Spans.{chain-front, chain-back}
+use Rattle.lw_pbuf.proofs.Spans.{chain-front, chain-back, all_parts-one}
+use Rattle.lw_pbuf.proofs.Rewriting.{refilled}
 
-split_of : (xs ys : List Part) → xs ++ ys ≡ take 1 xs ++ (drop 1 xs ++ ys)
-split_of xs ys = ap (λ (l : List Part). l ++ ys) (sym (take-append-drop 1 xs)) ∙ append_assoc (take 1 xs) (drop 1 xs) ys
+-- the pbufs behind the first are a chain, and so is the first
+pub chain_rest : (t : TableId) (ps qs : List Part) → qs ≡ drop 1 ps → IsChain t ps → IsChain t qs
+chain_rest t ps qs is c = subst (λ (l : List Part). IsChain t l) (sym is) (chain-back t (take 1 ps) (drop 1 ps) (subst (λ (l : List Part). IsChain t l) (sym (take-append-drop 1 ps)) c))
 
-pub chain_rest : (t : TableId) (xs ys : List Part) → IsChain t (xs ++ ys) → IsChain t (drop 1 xs ++ ys)
-chain_rest t xs ys c = chain-back t (take 1 xs) (drop 1 xs ++ ys) (subst (λ (l : List Part). IsChain t l) (split_of xs ys) c)
+pub chain_one : (t : TableId) (ps qs : List Part) → qs ≡ take 1 ps → IsChain t ps → IsChain t qs
+chain_one t ps qs is c = subst (λ (l : List Part). IsChain t l) (sym is) (chain-front t (take 1 ps) (drop 1 ps) (subst (λ (l : List Part). IsChain t l) (sym (take-append-drop 1 ps)) c))
 
-pub chain_one : (t : TableId) (xs ys : List Part) → IsChain t (xs ++ ys) → IsChain t (take 1 xs)
-chain_one t xs ys c = chain-front t (take 1 xs) (drop 1 xs ++ ys) (subst (λ (l : List Part). IsChain t l) (split_of xs ys) c)
-
--- and with no span behind it
-pub one_chain : (t : TableId) (xs : List Part) (ss : List (List Part)) → ss ≡ [] → IsChain t xs → IsChain t (xs ++ all_parts ss) × NoneEmpty ss
-one_chain t xs ss none chain = (
-  subst (λ (l : List (List Part)). IsChain t (xs ++ all_parts l)) (sym none) (subst (λ (l : List Part). IsChain t l) (sym (append-nil xs)) chain),
-  subst (λ (l : List (List Part)). NoneEmpty l) (sym none) (All-nil (λ (l : List Part). 0 < length l)),
-)
-
--- a chain whose first span has no pbuf any more, and which has two pbufs: of the spans ss the first is p, and the others are ts
-pub record Second (a p : List Part) (ss ts : List (List Part)) : Type 0 where
-  pub parts : a ++ all_parts ss ≡ p ++ all_parts ts
-  pub some : 0 < length p
+-- the first pbuf of spans is taken off: r has it, and the spans are ts then
+pub record Parted (ss ts : List (List Part)) (r : List Part) : Type 0 where
+  pub first : r ≡ take 1 (all_parts ss)
+  pub rest : all_parts ts ≡ drop 1 (all_parts ss)
   pub full : NoneEmpty ts
-  pub there : 0 < length ss
 
-pub second_span : (a p x : List Part) (ss ts : List (List Part)) → length a ≡ 0 → 1 < length (a ++ all_parts ss) → NoneEmpty ss → p ≡ get_or ss 0 p → ts ≡ remove (set ss 0 x) 0 → Second a p ss ts
-second_span (y ∷ ys) p x ss ts none many full is removed = absurd (omega arith)
-second_span [] p x [] ts none many full is removed = absurd (omega arith)
-second_span [] p x (s ∷ ss) ts none many full is removed = record {
-  parts = λ i. sym is i ++ all_parts (sym removed i);
-  some = subst (λ (l : List Part). 0 < length l) (sym is) (full 0 s (omega arith));
-  full = subst (λ (l : List (List Part)). NoneEmpty l) (sym removed) (All-tail (λ (l : List Part). 0 < length l) s ss full);
-  there = omega arith;
+-- with its span, where that has no other
+pub part_whole : (ss ts : List (List Part)) (p r : List Part) → NoneEmpty ss → 0 < length ss → p ≡ get_or ss 0 p → length p ≡ 1 → r ≡ get_or ss 0 r → ts ≡ remove ss 0 → Parted ss ts r
+part_whole [] ts p r full there at one is removed = absurd (omega arith)
+part_whole ([] ∷ xs) ts p r full there at one is removed = absurd (let e = ap (λ (l : List Part). length l) at in omega arith)
+part_whole ((y ∷ []) ∷ xs) ts p r full there at one is removed = record {
+  first = is;
+  rest = ap (λ (l : List (List Part)). all_parts l) removed;
+  full = subst (λ (l : List (List Part)). NoneEmpty l) (sym removed) (All-tail (λ (l : List Part). 0 < length l) (y ∷ []) xs full);
 }
+part_whole ((y ∷ z ∷ zs) ∷ xs) ts p r full there at one is removed = absurd (let e = ap (λ (l : List Part). length l) at in omega arith)
 
-pub first_set : (ss : List (List Part)) (x r : List Part) → 0 < length ss → r ≡ get_or (set ss 0 x) 0 r → r ≡ x
-first_set [] x r there is = absurd (omega arith)
-first_set (s ∷ ss) x r there is = is
+-- a chain of one span
+pub one_chain : (t : TableId) (p : List Part) (ss : List (List Part)) → ss ≡ p ∷ [] → 0 < length p → IsChain t p → IsChain t (all_parts ss) × NoneEmpty ss
+one_chain t p ss is some chain = (
+  subst (λ (l : List Part). IsChain t l) (sym (ap (λ (l : List (List Part)). all_parts l) is ∙ all_parts-one p)) chain,
+  subst (λ (l : List (List Part)). NoneEmpty l) (sym is) (All-cons (λ (l : List Part). 0 < length l) p [] some (All-nil (λ (l : List Part). 0 < length l))),
+)

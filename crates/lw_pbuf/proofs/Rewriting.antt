@@ -149,6 +149,22 @@ pub refilled : (n : ℕ) (ps qs : List (List Part)) → n ≡ length ps → leng
 refilled n ps qs all same =
     ap (λ (l : List (List Part)). take n (qs ++ l)) (drop_all (length qs) ps (omega arith)) ∙ (ap (take n) (append-nil qs) ∙ take_all n qs (omega arith))
 
+pub refilled_same : (ps qs : List (List Part)) → qs ≡ ps → refill (length ps) ps qs ≡ ps
+refilled_same ps qs same = refilled (length ps) ps qs refl (ap (λ (l : List (List Part)). length l) same) ∙ same
+
+-- so are spans of which the first is another now
+pub set_back : (ss lent : List (List Part)) (q : List Part) → lent ≡ ss → refill (length ss) ss (set lent 0 q) ≡ set ss 0 q
+set_back ss lent q same =
+    refilled (length ss) ss (set lent 0 q) refl (length-set lent 0 q ∙ ap (λ (l : List (List Part)). length l) same)
+    ∙ ap (λ (l : List (List Part)). set l 0 q) same
+
+-- and spans whose octets were written over
+pub rewritten_back : (ss lent ts : List (List Part)) → lent ≡ ss → length ts ≡ length lent → IsRewritten (all_parts lent) (all_parts ts) → (refill (length ss) ss ts ≡ ts) × IsRewritten (all_parts ss) (all_parts ts)
+rewritten_back ss lent ts is count same = (
+  refilled (length ss) ss ts refl (count ∙ ap (λ (l : List (List Part)). length l) is),
+  subst (λ (l : List (List Part)). IsRewritten (all_parts l) (all_parts ts)) is same,
+)
+
 -- a chain that was written over is one
 pub rewritten_chain : (t : TableId) (ps qs : List Part) → IsRewritten ps qs → IsChain t ps → IsChain t qs
 rewritten_chain t ps qs same chain = record { under = rewritten_under t ps qs same chain.under; some = rewritten_some ps qs same chain.some; short = let s = chain.short in let l = rewritten_length ps qs same in omega arith }

@@ -5,7 +5,7 @@ use Rattle.std.specs.List.{AllZip, refill}
 use Rattle.std.specs.Result.{IfOk, OnOk}
 use mathlib.Core.List.{map-append}
 use Rattle.std.proofs.lemmas.List.{length-map, length_push, take-append-drop, drop_more, drop-drop, take_more, take_more_set, drop-set-lt, take_all, drop_all, get_or-drop}
-use Rattle.std.proofs.lemmas.List.Elements.{All-append, All-push, All-map, All-weaker, All-nil, All-get_or}
+use Rattle.std.proofs.lemmas.List.Elements.{All-append, All-push, All-map, All-weaker, All-nil, All-cons, All-head, All-tail, All-get_or}
 use Rattle.std.proofs.lemmas.List.Sums.{sum_by-append}
 use Rattle.atomic_table.specs.Seated.{TableId}
 use Rattle.lw_payload.specs.declared.kinds.ShareFault.{ShareFault}
@@ -19,7 +19,7 @@ use Rattle.pbuf_spans.specs.Parts.{Part, rows_in, weight_in, least_adds, IsUnder
 use Rattle.lw_pbuf.specs.Chains.{ChainSeen, all_parts, NoneEmpty, IsOf}
 use Rattle.pbuf_spans.specs.Shares.{handed, first_of, second_of, MayShare, AllShared, IsTwin}
 use Rattle.lw_pbuf.specs.Shares.{IsSharedTo, IsChained}
-use Rattle.lw_pbuf.proofs.Spans.{rows_in-append, weight_in-append, least_adds-append, All-split, all_parts-append, all_parts-here, all_parts-more, all_parts-push}
+use Rattle.lw_pbuf.proofs.Spans.{rows_in-append, weight_in-append, least_adds-append, All-split, all_parts-append, all_parts-here, all_parts-more, all_parts-one, all_parts-push}
 use Rattle.lw_pbuf.proofs.Rewriting.{refilled}
 use Rattle.lw_pbuf.proofs.Homes.{joined_firsts, joined_seconds}
 
@@ -237,39 +237,53 @@ is_shared_to hands p q o ps parts shared first second room = record {
   weight = shared.weight ∙ ap weight_in parts;
 }
 
--- The share of a chain of several spans: the first was shared, and then those of a list, which was lent as `lent` and is written back as `firsts`
-pub record WholeShare (hands : Bool) (t : TableId) (ps qs ms : List Part) (rest firsts seconds : List (List Part)) : Type 0 where
+-- The share of a chain: its spans were shared, which were lent as `lent` and are written back as `firsts`
+pub record WholeShare (hands : Bool) (t : TableId) (ps qs ms : List Part) (spans firsts seconds : List (List Part)) : Type 0 where
   pub shared : AllShared hands ps qs ms
-  pub count : length firsts ≡ length rest
+  pub count : length firsts ≡ length spans
   pub first : IsChain t qs × NoneEmpty firsts
   pub second : IsChain t ms × NoneEmpty seconds
 
-pub whole_share : (hands : Bool) (t : TableId) (first one other : List Part) (rest lent firsts seconds : List (List Part)) (n : ℕ) → IsChain t (first ++ all_parts rest) × NoneEmpty rest → AllShared hands first one other → lent ≡ rest → length lent ≡ n
-    → length firsts ≡ length lent → AllShared hands (all_parts lent) (all_parts firsts) (all_parts seconds) → (NoneEmpty lent → NoneEmpty firsts × NoneEmpty seconds)
-    → WholeShare hands t (first ++ all_parts rest) (one ++ all_parts (refill n rest firsts)) (other ++ all_parts seconds) rest (refill n rest firsts) seconds
-whole_share hands t first one other rest lent firsts seconds n chain front is len same behind full =
+pub whole_share : (hands : Bool) (t : TableId) (spans lent firsts seconds : List (List Part)) → IsChain t (all_parts spans) × NoneEmpty spans → lent ≡ spans → length firsts ≡ length lent
+    → AllShared hands (all_parts lent) (all_parts firsts) (all_parts seconds) → (NoneEmpty lent → NoneEmpty firsts) → (NoneEmpty lent → NoneEmpty seconds)
+    → WholeShare hands t (all_parts spans) (all_parts (refill (length spans) spans firsts)) (all_parts seconds) spans (refill (length spans) spans firsts) seconds
+whole_share hands t spans lent firsts seconds chain is same behind full others =
     let m = ap (λ (l : List (List Part)). length l) is in
-    let whole = shared_both hands first one other (all_parts rest) (all_parts firsts) (all_parts seconds) front (subst (λ (l : List (List Part)). AllShared hands (all_parts l) (all_parts firsts) (all_parts seconds)) is behind) in
-    let each = full (subst (λ (l : List (List Part)). NoneEmpty l) (sym is) chain.1) in
-    subst (λ (l : List (List Part)). WholeShare hands t (first ++ all_parts rest) (one ++ all_parts l) (other ++ all_parts seconds) rest l seconds) (sym (refilled n rest firsts (omega arith) (omega arith))) record {
+    let whole = subst (λ (l : List (List Part)). AllShared hands (all_parts l) (all_parts firsts) (all_parts seconds)) is behind in
+    let some = subst (λ (l : List (List Part)). NoneEmpty l) (sym is) chain.1 in
+    subst (λ (l : List (List Part)). WholeShare hands t (all_parts spans) (all_parts l) (all_parts seconds) spans l seconds) (sym (refilled (length spans) spans firsts refl (omega arith))) record {
       shared = whole;
       count = omega arith;
-      first = (first_chain hands t (first ++ all_parts rest) (one ++ all_parts firsts) (other ++ all_parts seconds) chain.0 whole, each.0);
-      second = (second_chain hands t (first ++ all_parts rest) (one ++ all_parts firsts) (other ++ all_parts seconds) chain.0 whole, each.1);
+      first = (first_chain hands t (all_parts spans) (all_parts firsts) (all_parts seconds) chain.0 whole, full some);
+      second = (second_chain hands t (all_parts spans) (all_parts firsts) (all_parts seconds) chain.0 whole, others some);
     }
 
--- the share of a chain of one span
-pub alone_share : (hands : Bool) (t : TableId) (first one other : List Part) (rest none : List (List Part)) → length rest ≡ 0 → none ≡ [] → IsChain t (first ++ all_parts rest) × NoneEmpty rest → AllShared hands first one other
-    → WholeShare hands t (first ++ all_parts rest) (one ++ all_parts rest) (other ++ all_parts none) rest rest none
-alone_share hands t first one other [] none few is chain front =
-    let whole = shared_both hands first one other [] [] [] front (shared_none hands) in
-    subst (λ (l : List (List Part)). WholeShare hands t (first ++ []) (one ++ []) (other ++ all_parts l) [] [] l) (sym is) record {
-      shared = whole;
-      count = refl;
-      first = (first_chain hands t (first ++ []) (one ++ []) (other ++ []) chain.0 whole, All-nil (λ (q : List Part). 0 < length q));
-      second = (second_chain hands t (first ++ []) (one ++ []) (other ++ []) chain.0 whole, All-nil (λ (q : List Part). 0 < length q));
-    }
-alone_share hands t first one other (x ∷ xs) none few is chain front = absurd (omega arith)
+-- the one span of a chain, and another in its place
+pub one_span : (spans : List (List Part)) (p q : List Part) → length spans ≡ 1 → p ≡ get_or spans 0 p → (p ≡ all_parts spans) × (q ≡ all_parts (set spans 0 q))
+one_span [] p q one is = absurd (omega arith)
+one_span (x ∷ []) p q one is = (is ∙ sym (all_parts-one x), sym (all_parts-one q))
+one_span (x ∷ y ∷ ys) p q one is = absurd (omega arith)
+
+pub one_shared : (hands : Bool) (spans : List (List Part)) (p q o : List Part) → length spans ≡ 1 → p ≡ get_or spans 0 p → AllShared hands p q o → AllShared hands (all_parts spans) (all_parts (set spans 0 q)) o
+one_shared hands spans p q o one is shared =
+    let e = one_span spans p q one is in
+    subst (λ (l : List Part). AllShared hands l (all_parts (set spans 0 q)) o) e.0 (subst (λ (l : List Part). AllShared hands p l o) e.1 shared)
+
+pub one_full : (hands : Bool) (spans : List (List Part)) (p q o : List Part) → length spans ≡ 1 → p ≡ get_or spans 0 p → AllShared hands p q o → NoneEmpty spans → NoneEmpty (set spans 0 q) × (0 < length o)
+one_full hands [] p q o one is shared full = absurd (omega arith)
+one_full hands (x ∷ xs) p q o one is shared full =
+    let some : 0 < length x = All-head (λ (l : List Part). 0 < length l) x xs full in
+    let e = ap (λ (l : List Part). length l) is in
+    let m = ap (λ (l : List Part). length l) shared.first ∙ length-map p (first_of hands) in
+    let n = ap (λ (l : List Part). length l) shared.second ∙ length-map p (second_of hands) in
+    (All-cons (λ (l : List Part). 0 < length l) q xs (omega arith) (All-tail (λ (l : List Part). 0 < length l) x xs full), omega arith)
+
+-- the spans of a share of one
+pub one_second : (hands : Bool) (ps qs o : List Part) (seconds : List (List Part)) → seconds ≡ o ∷ [] → AllShared hands ps qs o → AllShared hands ps qs (all_parts seconds)
+one_second hands ps qs o seconds is shared = subst (λ (l : List Part). AllShared hands ps qs l) (sym (ap (λ (l : List (List Part)). all_parts l) is ∙ all_parts-one o)) shared
+
+pub one_none_empty : (o : List Part) (spans : List (List Part)) → spans ≡ o ∷ [] → 0 < length o → NoneEmpty spans
+one_none_empty o spans is some = subst (λ (l : List (List Part)). NoneEmpty l) (sym is) (All-cons (λ (l : List Part). 0 < length l) o [] some (All-nil (λ (l : List Part). 0 < length l)))
 
 -- the owners of a chain's pbufs may be shared where each may add one
 pub may_share : (h : SeatSeen) (t : TableId) (c : ChainSeen) (ps : List Part) → IsOf h c → ps ≡ c.parts → t ≡ c.table → IsChain t ps → 0 < least_adds c.parts → MayShare h c.parts

@@ -49,22 +49,6 @@ cuts_back h k ys xs zs m chain less cut = record {
 pub cuts_then : (h k l : SeatSeen) (ps qs rs : List Part) → Cuts h k ps qs → Cuts k l qs rs → Cuts h l ps rs
 cuts_then h k l ps qs rs a b = record { may = b.may; cut = cut_then h k l ps qs rs a.cut b.cut }
 
--- the same where octets were left out at the front: of the first pbufs, and then of those behind them
-pub cuts_front_octets : (h k : SeatSeen) (xs zs ys : List Part) (m : ℕ) → MayGive h (xs ++ ys) → joined zs ≡ drop m (joined xs) → IsChain k.holder.table zs → IsCutTo h k xs zs → Cuts h k (xs ++ ys) (zs ++ ys)
-cuts_front_octets h k xs zs ys m may octets chain cut = cuts_front h k xs zs ys may chain (let o = ap length octets in let d = length-drop m (joined xs) in omega arith) cut
-
-pub cuts_back_octets : (h k l : SeatSeen) (xs zs ys ws : List Part) (m : ℕ) → Cuts h k (xs ++ ys) (zs ++ ys) → joined ws ≡ drop m (joined ys) → IsChain l.holder.table ws → IsCutTo k l ys ws → Cuts h l (xs ++ ys) (zs ++ ws)
-cuts_back_octets h k l xs zs ys ws m first octets chain cut =
-    cuts_then h k l (xs ++ ys) (zs ++ ys) (zs ++ ws) first (cuts_back k l zs ys ws first.may chain (let o = ap length octets in let d = length-drop m (joined ys) in omega arith) cut)
-
--- and where they were left out at the back: of the last pbufs, and then of those before them
-pub cuts_last_octets : (h k : SeatSeen) (xs ys ws : List Part) (m : ℕ) → MayGive h (xs ++ ys) → joined ws ≡ take m (joined ys) → IsChain k.holder.table ws → IsCutTo h k ys ws → Cuts h k (xs ++ ys) (xs ++ ws)
-cuts_last_octets h k xs ys ws m may octets chain cut = cuts_back h k xs ys ws may chain (let o = ap length octets in let d = length-take m (joined ys) in omega arith) cut
-
-pub cuts_first_octets : (h k l : SeatSeen) (xs zs ys ws : List Part) (m : ℕ) → Cuts h k (xs ++ ys) (xs ++ ws) → joined zs ≡ take m (joined xs) → IsChain l.holder.table zs → IsCutTo k l xs zs → Cuts h l (xs ++ ys) (zs ++ ws)
-cuts_first_octets h k l xs zs ys ws m last octets chain cut =
-    cuts_then h k l (xs ++ ys) (xs ++ ws) (zs ++ ws) last (cuts_front k l xs zs ws last.may chain (let o = ap length octets in let d = length-take m (joined xs) in omega arith) cut)
-
 -- where all pbufs of a span are given up, those behind it are left
 pub cuts_first : (h k : SeatSeen) (xs ys : List Part) → MayGive h (xs ++ ys) → IsSpent h k xs → Cuts h k (xs ++ ys) ys
 cuts_first h k xs ys m spent = record { may = give-rest h k xs ys m spent; cut = cut_spent_front h k xs ys spent }
@@ -116,19 +100,7 @@ octets_back xs zs ys ws n left rest second first =
           ap (λ (l : List ℕ). l ++ take (length b - n) b) (take_all (length a - left) a (omega arith)) ∙ sym (ap (λ (k : ℕ). take k (a ++ b)) many ∙ take-append-add a b (length b - n))
     ]
 
--- The pbufs that are left of both: where the octets are cut off the front
-
-pub parts_front : (xs zs ys ws : List Part) (n m : ℕ) → All (λ p. 0 < length p.octets) ys → m ≡ min n (length (joined xs)) → zs ≡ without_front m xs → ws ≡ without_front (n - m) ys → zs ++ ws ≡ without_front n (xs ++ ys)
-parts_front xs zs ys ws n m some most first second = (λ i. first i ++ second i) ∙ cut (cases_lt n (length (joined xs)))
-  where
-    cut : (n < length (joined xs)) ⊎ (length (joined xs) ≤ n) → without_front m xs ++ without_front (n - m) ys ≡ without_front n (xs ++ ys)
-    cut (inl within) =
-        (λ i. without_front ((let e : m ≡ n = omega arith in e) i) xs ++ without_front ((let e : n - m ≡ 0 = omega arith in e) i) ys)
-        ∙ (ap (λ (l : List Part). without_front n xs ++ l) (front_none ys some) ∙ sym (front_within xs ys n within))
-    cut (inr past) =
-        (λ i. front_all xs m (omega arith) i ++ without_front ((let e : n - m ≡ n - length (joined xs) = omega arith in e) i) ys) ∙ sym (front_beyond xs ys n past)
-
--- and off the back
+-- The pbufs that are left of both where the octets are cut off the back
 pub parts_back : (xs zs ys ws : List Part) (n left : ℕ) → All (λ p. 0 < length p.octets) xs → left ≡ n - length (joined ys) → ws ≡ with_front (length (joined ys) - n) ys → zs ≡ with_front (length (joined xs) - left) xs
     → zs ++ ws ≡ with_front (length (joined (xs ++ ys)) - n) (xs ++ ys)
 parts_back xs zs ys ws n left some rest second first = (λ i. first i ++ second i) ∙ cut (cases_lt (length (joined ys)) n)
@@ -148,6 +120,11 @@ parts_back xs zs ys ws n left some rest second first = (λ i. first i ++ second 
 pub first_span : (h : SeatSeen) (ss : List (List Part)) (p : List Part) → MayGive h (all_parts ss) → 0 < length (joined (all_parts ss)) → p ≡ get_or ss 0 p → MayGive h p
 first_span h [] p m some is = absurd (omega arith)
 first_span h (x ∷ xs) p m some is = subst (λ (y : List Part). MayGive h y) (sym is) (give-front h x (all_parts xs) m)
+
+-- and of a slice of them
+pub first_lent : (ss lent : List (List Part)) (p : List Part) → 0 < length (joined (all_parts ss)) → lent ≡ ss → get_or lent 0 p ≡ get_or ss 0 (get_or lent 0 p)
+first_lent [] lent p some same = absurd (omega arith)
+first_lent (x ∷ xs) lent p some same = ap (λ (l : List (List Part)). get_or l 0 p) same
 
 pub same_first : (ss : List (List Part)) (p q : List Part) → 0 < length (joined (all_parts ss)) → p ≡ get_or ss 0 p → q ≡ get_or ss 0 q → p ≡ q
 same_first [] p q some a b = absurd (omega arith)

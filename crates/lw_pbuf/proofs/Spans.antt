@@ -98,13 +98,6 @@ few_spans (ps ∷ spans) full =
     let both = length-append ps (all_parts spans) in
     omega arith
 
--- a span and others are put behind the spans of a chain
-pub behind-spans : (a b : List Part) (xs ys zs ws : List (List Part)) → all_parts zs ≡ all_parts xs ++ b → ws ≡ zs ++ ys → a ++ all_parts ws ≡ (a ++ all_parts xs) ++ (b ++ all_parts ys)
-behind-spans a b xs ys zs ws pushed appended =
-    ap (λ (l : List (List Part)). a ++ all_parts l) appended
-    ∙ (ap (λ (l : List Part). a ++ l) (all_parts-append zs ys ∙ (ap (λ (l : List Part). l ++ all_parts ys) pushed ∙ append_assoc (all_parts xs) b (all_parts ys)))
-    ∙ sym (append_assoc a (all_parts xs) (b ++ all_parts ys)))
-
 -- the first n of two lists are left out
 pub drop-both : {X : Type 0} (n : ℕ) (xs ys : List X) → drop n (xs ++ ys) ≡ drop n xs ++ drop (n - length xs) ys
 drop-both zero [] ys = refl

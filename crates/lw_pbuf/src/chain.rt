@@ -1,5 +1,5 @@
 //! A chain of pbufs.
-ghost use Rattle.std.specs.Prelude.{◌≡◌, ◌+◌, ◌-◌, ◌^◌, ◌<◌, ◌≤◌, [], ◌++◌, length, drop, vec_capacity, OnOk};
+ghost use Rattle.std.specs.Prelude.{◌≡◌, ◌+◌, ◌-◌, ◌^◌, ◌<◌, ◌≤◌, ◌++◌, length, drop, OnOk};
 ghost use Rattle.std.specs.Arc.{arc_value};
 ghost use Rattle.pbuf_spans.specs.Parts.{joined, IsChain};
 ghost use Rattle.lw_pbuf.specs.Chains.{all_parts, NoneEmpty};
@@ -7,6 +7,8 @@ ghost use Rattle.lw_pbuf.specs.Chains.{all_parts, NoneEmpty};
 use crate::NoMemory;
 use pbuf_counts::Counts;
 use pbuf_spans::Span;
+use smallvec::SmallVec;
+use std::alloc::Global;
 use std::marker::Model;
 use std::sync::Arc;
 
@@ -15,8 +17,7 @@ use std::sync::Arc;
 #[derive(Drop)]
 pub struct Chain {
     pub(crate) counts: Arc<Counts>,
-    pub(crate) first: Span,
-    pub(crate) rest: Vec<Span>,
+    pub(crate) spans: SmallVec<Span, 1>,
 }
 
 impl Model for Chain {
@@ -28,29 +29,33 @@ impl Model for Chain {
 
     ghost coded = { Prim.hlevel (codes, table_id_coded) };
 
-    ghost use Rattle.std.specs.Prelude.{◌-◌, ◌++◌, length, vec_capacity};
+    ghost use Rattle.std.specs.Prelude.{◌-◌, length};
     ghost use Rattle.std.specs.Arc.{arc_value};
     ghost use Rattle.pbuf_spans.specs.Parts.{IsChain};
     ghost use Rattle.lw_pbuf.specs.Chains.{all_parts, NoneEmpty};
 
-    ghost view = { λ c. record { table = arc_value c.counts; parts = c.first ++ all_parts c.rest.items; room = vec_capacity c.rest - length c.rest.items } };
+    ghost view = { λ c. record { table = arc_value c.counts; parts = all_parts c.spans.items; room = c.spans.capacity - length c.spans.items } };
 
-    ghost invariant = { λ c. IsChain (arc_value c.counts) (c.first ++ all_parts c.rest.items) × NoneEmpty c.rest.items };
+    ghost invariant = { λ c. IsChain (arc_value c.counts) (all_parts c.spans.items) × NoneEmpty c.spans.items };
 }
 
 impl Chain {
     /// A chain of pbufs that were just made.
     #[inline(always)]
-    pub(crate) fn of(counts: Arc<Counts>, first: Span, rest: Vec<Span>) -> Chain
+    pub(crate) fn of(alloc: Global, counts: Arc<Counts>, first: Span) -> Chain
         requires chain { IsChain (arc_value counts) first }
-        requires none { rest.items ≡ [] }
         ensures table { result.table ≡ arc_value counts }
         ensures parts { result.parts ≡ first }
     {
+        if first.clen() == 0 {
+            return Chain {
+                counts,
+                spans: SmallVec::new(alloc),
+            };
+        }
         Chain {
             counts,
-            first,
-            rest,
+            spans: SmallVec::from_buf(alloc, [first]),
         }
     }
 
@@ -60,8 +65,8 @@ impl Chain {
         ensures few { length self.now.parts ≤ length (joined self.now.parts) }
         ensures short { length (joined self.now.parts) < 2 ^ 32 }
     {
-        let mut count = self.first.clen();
-        for span in &self.rest {
+        let mut count = 0;
+        for span in self.spans.as_slice() {
             count += span.clen();
         }
         count as u32
@@ -72,9 +77,8 @@ impl Chain {
         ensures { result ≡ length (joined (drop i self.now.parts)) }
     {
         let mut skip = i as usize;
-        let mut total = self.first.tot_len(skip);
-        skip = skip.saturating_sub(self.first.clen());
-        for span in &self.rest {
+        let mut total = 0;
+        for span in self.spans.as_slice() {
             total += span.tot_len(skip);
             skip = skip.saturating_sub(span.clen());
         }
@@ -85,8 +89,8 @@ impl Chain {
     pub fn len(&self) -> u32
         ensures { result ≡ length (joined self.now.parts) }
     {
-        let mut total = self.first.len();
-        for span in &self.rest {
+        let mut total = 0;
+        for span in self.spans.as_slice() {
             total += span.len();
         }
         total
@@ -97,7 +101,7 @@ impl Chain {
         ensures same { self.new ≡ record self.old { room = self.new.room } }
         ensures ok { OnOk result (n ≤ self.new.room) }
     {
-        self.rest.reserve(n as usize)
+        self.spans.reserve(n as usize)
     }
 
     /// Puts the pbufs of another chain behind these, with their owners. It needs room for them.
@@ -111,24 +115,11 @@ impl Chain {
     {
         let Chain {
             counts: _counts,
-            first,
-            mut rest,
+            mut spans,
         } = tail;
-        push_span(&mut self.rest, first);
-        self.rest.append(&mut rest).unwrap();
-    }
-}
-
-// Puts a span behind these, unless it has no pbuf.
-#[inline(always)]
-fn push_span(spans: &mut Vec<Span>, span: Span)
-    requires room { 0 < length span → length spans.old.items < vec_capacity spans.old }
-    ensures parts { all_parts spans.new.items ≡ all_parts spans.old.items ++ span }
-    ensures full { NoneEmpty spans.old.items → NoneEmpty spans.new.items }
-    ensures more { length spans.new.items ≤ length spans.old.items + length span }
-    ensures capacity { vec_capacity spans.new ≡ vec_capacity spans.old }
-{
-    if span.clen() > 0 {
-        spans.push_reserved(span);
+        if spans.is_empty() {
+            return;
+        }
+        self.spans.append(&mut spans).unwrap();
     }
 }

@@ -12,13 +12,7 @@ impl Chain {
         requires within { from + length out.old ≤ length (joined self.now.parts) }
         ensures { out.new ≡ slice_range (joined self.now.parts) from (from + length out.old) }
     {
-        let octets = self.first.octets();
-        let skip = from as usize;
-        let begin = skip.min(octets.len());
-        let count = (octets.len() - begin).min(out.len());
-        let (front, back) = out.split_at_mut(count);
-        front.copy_from_slice(&octets[begin..begin + count]);
-        copy_out(self.rest.as_slice(), skip - begin, back);
+        copy_out(self.spans.as_slice(), from as usize, out);
     }
 }
 

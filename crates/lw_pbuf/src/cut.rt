@@ -1,5 +1,6 @@
 //! Cuts: octets that leave a chain, and the pbufs that go with them.
-ghost use Rattle.std.specs.Prelude.{◌≡◌, ◌+◌, ◌-◌, ◌<◌, ◌≤◌, ◌++◌, length, drop, take, true, vec_capacity};
+ghost use Rattle.std.specs.Prelude.{◌≡◌, ◌+◌, ◌-◌, ◌<◌, ◌≤◌, ◌↔◌, ◌++◌, length, drop, take, true, IsSome, OnSome};
+ghost use Rattle.std.specs.Option.{option_to_list};
 ghost use Rattle.lw_payload.specs.Views.{Slot};
 ghost use Rattle.pbuf_seats.specs.Kept.{rows_of};
 ghost use Rattle.pbuf_spans.specs.Parts.{joined, rows_in, all_own, IsChain};
@@ -9,6 +10,7 @@ ghost use Rattle.lw_pbuf.specs.Chains.{all_parts, NoneEmpty, IsOf};
 use crate::chain::Chain;
 use pbuf_seats::PoolSeat;
 use pbuf_spans::Span;
+use smallvec::SmallVec;
 
 impl Chain {
     /// Cuts the first n octets off. A pbuf of which no octet is left is given up. It takes no memory.
@@ -23,9 +25,7 @@ impl Chain {
         ensures few { length self.new.parts ≤ length (joined self.new.parts) }
         ensures of_seat { IsOf seat.new self.new }
     {
-        let in_first = n.min(self.first.len());
-        self.first.cut_front(seat, in_first);
-        front_off(&mut self.rest, seat, n - in_first);
+        front_off(&mut self.spans, seat, n);
     }
 
     /// Cuts the last n octets off, likewise.
@@ -39,8 +39,7 @@ impl Chain {
         ensures few { length self.new.parts ≤ length (joined self.new.parts) }
         ensures of_seat { IsOf seat.new self.new }
     {
-        let left = back_off(&mut self.rest, seat, n);
-        self.first.cut_back(seat, left);
+        back_off(&mut self.spans, seat, n);
     }
 
     /// Leaves a header of so many octets out, so that the chain begins with what is behind it.
@@ -71,14 +70,13 @@ impl Chain {
     {
         let surplus = self.len() - octets.len() as u32;
         self.cut_back(seat, surplus);
-        let (front, back) = octets.split_at(self.first.len() as usize);
-        self.first.write(front);
-        write_over(self.rest.as_mut_slice(), back);
+        write_over(self.spans.as_mut_slice(), octets);
     }
 }
 
 // Cuts the first n octets off. Spans of which nothing is left go.
-fn front_off(spans: &mut Vec<Span>, seat: &mut PoolSeat, n: u32)
+#[inline(always)]
+fn front_off(spans: &mut SmallVec<Span, 1>, seat: &mut PoolSeat, n: u32)
     requires within { n ≤ length (joined (all_parts spans.old.items)) }
     requires chain { IsChain seat.old.holder.table (all_parts spans.old.items) }
     requires full { NoneEmpty spans.old.items }
@@ -89,7 +87,7 @@ fn front_off(spans: &mut Vec<Span>, seat: &mut PoolSeat, n: u32)
     ensures full { NoneEmpty spans.new.items }
     ensures listed { (s : Slot) → rows_in (all_parts spans.new.items) s ≤ rows_of seat.new.kept s }
     ensures cut { IsCutTo seat.old seat.new (all_parts spans.old.items) (all_parts spans.new.items) }
-    ensures capacity { vec_capacity spans.new ≡ vec_capacity spans.old }
+    ensures capacity { spans.new.capacity ≡ spans.old.capacity }
     ensures fewer { length spans.new.items ≤ length spans.old.items }
 {
     let mut left = n;
@@ -99,7 +97,8 @@ fn front_off(spans: &mut Vec<Span>, seat: &mut PoolSeat, n: u32)
 }
 
 // Cuts n octets or the first span off the front; how many octets are still to be cut.
-fn cut_first(spans: &mut Vec<Span>, seat: &mut PoolSeat, n: u32) -> u32
+#[inline(always)]
+fn cut_first(spans: &mut SmallVec<Span, 1>, seat: &mut PoolSeat, n: u32) -> u32
     requires some { 0 < n }
     requires within { n ≤ length (joined (all_parts spans.old.items)) }
     requires chain { IsChain seat.old.holder.table (all_parts spans.old.items) }
@@ -112,12 +111,12 @@ fn cut_first(spans: &mut Vec<Span>, seat: &mut PoolSeat, n: u32) -> u32
     ensures chain { IsChain seat.new.holder.table (all_parts spans.new.items) }
     ensures full { NoneEmpty spans.new.items }
     ensures cut { IsCutTo seat.old seat.new (all_parts spans.old.items) (all_parts spans.new.items) }
-    ensures capacity { vec_capacity spans.new ≡ vec_capacity spans.old }
+    ensures capacity { spans.new.capacity ≡ spans.old.capacity }
     ensures fewer { length spans.new.items ≤ length spans.old.items }
 {
-    let len = spans[0].len();
+    let len = spans.as_slice()[0].len();
     if n < len {
-        spans[0].cut_front(seat, n);
+        spans.as_mut_slice()[0].cut_front(seat, n);
         return 0;
     }
     let first = spans.remove(0);
@@ -126,7 +125,7 @@ fn cut_first(spans: &mut Vec<Span>, seat: &mut PoolSeat, n: u32) -> u32
 }
 
 // Cuts the last n octets off, as far as there are any; how many are still to be cut.
-fn back_off(spans: &mut Vec<Span>, seat: &mut PoolSeat, n: u32) -> u32
+fn back_off(spans: &mut SmallVec<Span, 1>, seat: &mut PoolSeat, n: u32) -> u32
     requires chain { IsChain seat.old.holder.table (all_parts spans.old.items) }
     requires full { NoneEmpty spans.old.items }
     requires listed { (s : Slot) → rows_in (all_parts spans.old.items) s ≤ rows_of seat.old.kept s }
@@ -137,12 +136,12 @@ fn back_off(spans: &mut Vec<Span>, seat: &mut PoolSeat, n: u32) -> u32
     ensures full { NoneEmpty spans.new.items }
     ensures listed { (s : Slot) → rows_in (all_parts spans.new.items) s ≤ rows_of seat.new.kept s }
     ensures cut { IsCutTo seat.old seat.new (all_parts spans.old.items) (all_parts spans.new.items) }
-    ensures capacity { vec_capacity spans.new ≡ vec_capacity spans.old }
+    ensures capacity { spans.new.capacity ≡ spans.old.capacity }
     ensures fewer { length spans.new.items ≤ length spans.old.items }
 {
     let mut left = n;
     while left > 0 {
-        let Some(last) = spans.pop() else {
+        let Some(last) = pop_last(spans) else {
             return left;
         };
         left = cut_last(spans, last, seat, left);
@@ -150,12 +149,25 @@ fn back_off(spans: &mut Vec<Span>, seat: &mut PoolSeat, n: u32) -> u32
     left
 }
 
+// Takes the last span off. There is a place for it then.
+fn pop_last(spans: &mut SmallVec<Span, 1>) -> Option<Span>
+    ensures items { spans.old.items ≡ spans.new.items ++ option_to_list result }
+    ensures variant { IsSome result ↔ (0 < length spans.old.items) }
+    ensures room { OnSome result (length spans.new.items < spans.new.capacity) }
+    ensures capacity { spans.new.capacity ≡ spans.old.capacity }
+{
+    if spans.len() == 0 {
+        return None;
+    }
+    spans.pop()
+}
+
 // Cuts n octets off a span that stood behind these, and puts it back where any are left; how many octets are still to be cut.
-fn cut_last(spans: &mut Vec<Span>, mut last: Span, seat: &mut PoolSeat, n: u32) -> u32
+fn cut_last(spans: &mut SmallVec<Span, 1>, mut last: Span, seat: &mut PoolSeat, n: u32) -> u32
     requires some { (0 < n) × (0 < length last) }
     requires chain { IsChain seat.old.holder.table (all_parts spans.old.items ++ last) }
     requires full { NoneEmpty spans.old.items }
-    requires room { length spans.old.items < vec_capacity spans.old }
+    requires room { length spans.old.items < spans.old.capacity }
     requires listed { (s : Slot) → rows_in (all_parts spans.old.items ++ last) s ≤ rows_of seat.old.kept s }
     ensures left { result ≡ n - length (joined last) }
     ensures octets { result ≡ 0 → joined (all_parts spans.new.items) ≡ take (length (joined (all_parts spans.old.items ++ last)) - n) (joined (all_parts spans.old.items ++ last)) }
@@ -165,7 +177,7 @@ fn cut_last(spans: &mut Vec<Span>, mut last: Span, seat: &mut PoolSeat, n: u32) 
     ensures full { NoneEmpty spans.new.items }
     ensures listed { (s : Slot) → rows_in (all_parts spans.new.items) s ≤ rows_of seat.new.kept s }
     ensures cut { IsCutTo seat.old seat.new (all_parts spans.old.items ++ last) (all_parts spans.new.items) }
-    ensures capacity { vec_capacity spans.new ≡ vec_capacity spans.old }
+    ensures capacity { spans.new.capacity ≡ spans.old.capacity }
     ensures fewer { length spans.new.items ≤ length spans.old.items + 1 }
 {
     let len = last.len();

@@ -9,6 +9,7 @@ ghost use Rattle.lw_pbuf.specs.Chains.{all_parts, IsOf};
 use crate::chain::Chain;
 use pbuf_seats::PoolSeat;
 use pbuf_spans::Span;
+use smallvec::SmallVec;
 
 /// Gives the owners of all pbufs up, and answers how many lives of pbufs ended by it. Takes no memory.
 #[inline(always)]
@@ -17,19 +18,29 @@ pub fn pbuf_free(c: Chain, seat: &mut PoolSeat) -> u32
     ensures spent { IsSpent seat.old seat.new c.parts }
     ensures ended { ended_at seat.new ≡ ended_at seat.old + result }
 {
-    let Chain {
-        counts,
-        first,
-        rest,
-    } = c;
-    let ended = first.give_up(seat) + give_up_spans(rest, seat);
+    let Chain { counts, spans } = c;
+    let ended = give_up_spans(spans, seat);
     seat.keep_counts(counts);
     ended
 }
 
 // The same for spans.
 #[inline(always)]
-fn give_up_spans(mut spans: Vec<Span>, seat: &mut PoolSeat) -> u32
+fn give_up_spans(spans: SmallVec<Span, 1>, seat: &mut PoolSeat) -> u32
+    requires chain { IsChain seat.old.holder.table (all_parts spans.items) }
+    requires listed { (s : Slot) → rows_in (all_parts spans.items) s ≤ rows_of seat.old.kept s }
+    ensures spent { IsSpent seat.old seat.new (all_parts spans.items) }
+    ensures ended { ended_at seat.new ≡ ended_at seat.old + result }
+    ensures few { result ≤ length (all_parts spans.items) }
+{
+    match spans.into_inner() {
+        Ok([span]) => span.give_up(seat),
+        Err(spans) => give_up_each(spans, seat),
+    }
+}
+
+// The same, the last first.
+fn give_up_each(mut spans: SmallVec<Span, 1>, seat: &mut PoolSeat) -> u32
     requires chain { IsChain seat.old.holder.table (all_parts spans.items) }
     requires listed { (s : Slot) → rows_in (all_parts spans.items) s ≤ rows_of seat.old.kept s }
     ensures spent { IsSpent seat.old seat.new (all_parts spans.items) }
@@ -40,6 +51,5 @@ fn give_up_spans(mut spans: Vec<Span>, seat: &mut PoolSeat) -> u32
     while let Some(span) = spans.pop() {
         ended += span.give_up(seat);
     }
-    spans.destroy_empty();
     ended
 }

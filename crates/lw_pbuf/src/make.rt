@@ -138,11 +138,11 @@ fn chain_of(
     ensures empty { IfErr result (λ e. (e ≡ AllocFault.PoolEmpty kind) × IsDenied seat.old seat.new kind (length body.items)) }
     ensures keeps { KeepsSeat seat.old seat.new kind (length body.items) }
 {
-    let rest = Vec::new(*pbufs.allocator());
+    let alloc = *pbufs.allocator();
     let octets = body.len() as u32;
     if fill(seat, kind, body.as_slice(), &mut pbufs) {
         granted(seat, kind, octets);
-        return Ok(Chain::of(counts, Span::of(body, pbufs), rest));
+        return Ok(Chain::of(alloc, counts, Span::of(body, pbufs)));
     }
     denied(seat, kind, octets);
     give_up_all(pbufs, seat);

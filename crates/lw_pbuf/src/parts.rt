@@ -1,8 +1,11 @@
 //! A chain that is taken apart.
-ghost use Rattle.std.specs.Prelude.{◌≡◌, ◌<◌, ◌≤◌, take, drop, length, None, Some, IfOk, IfSome, OnErr};
+ghost use Rattle.std.specs.Prelude.{◌≡◌, ◌<◌, ◌≤◌, take, drop, length, None, Some, IfOk, IfSome, OnOk, OnErr};
+ghost use Rattle.lw_pbuf.specs.Chains.{all_parts, NoneEmpty};
 
 use crate::NoMemory;
 use crate::chain::Chain;
+use pbuf_spans::Span;
+use smallvec::SmallVec;
 use std::mem;
 use std::sync::Arc;
 
@@ -19,23 +22,35 @@ impl Chain {
             return Ok(None);
         }
         let counts = Arc::try_clone(&self.counts)?;
-        let alloc = *self.rest.allocator();
-        if self.first.clen() > 0 {
-            let first = self.first.split_first()?;
-            let rest = mem::replace(&mut self.rest, Vec::new(alloc));
-            return Ok(Some(Chain {
-                counts,
-                first,
-                rest,
-            }));
-        }
-        let first = self.rest[0].split_first()?;
-        let mut rest = mem::replace(&mut self.rest, Vec::new(alloc));
-        self.first = rest.remove(0);
-        Ok(Some(Chain {
-            counts,
-            first,
-            rest,
-        }))
+        let alloc = *self.spans.allocator();
+        let first = take_first(&mut self.spans)?;
+        let spans = mem::replace(&mut self.spans, SmallVec::from_buf(alloc, [first]));
+        Ok(Some(Chain { counts, spans }))
     }
+}
+
+// Takes the first pbuf of all off, which is a span then.
+fn take_first(spans: &mut SmallVec<Span, 1>) -> Result<Span, NoMemory>
+    requires some { 0 < length spans.old.items }
+    requires full { NoneEmpty spans.old.items }
+    ensures first { IfOk result (λ s. s ≡ take 1 (all_parts spans.old.items)) }
+    ensures rest { OnOk result (all_parts spans.new.items ≡ drop 1 (all_parts spans.old.items)) }
+    ensures full { NoneEmpty spans.new.items }
+    ensures err { OnErr result (spans.new ≡ spans.old) }
+{
+    if spans.as_slice()[0].clen() == 1 {
+        return Ok(spans.remove(0));
+    }
+    first_of(&mut spans.as_mut_slice()[0])
+}
+
+// Takes the first pbuf off, which is a span then.
+fn first_of(span: &mut Span) -> Result<Span, NoMemory>
+    requires { 0 < length span.old }
+    ensures first { IfOk result (λ s. s ≡ take 1 span.old) }
+    ensures rest { OnOk result (span.new ≡ drop 1 span.old) }
+    ensures err { OnErr result (span.new ≡ span.old) }
+{
+    let rest = span.split_first()?;
+    Ok(mem::replace(span, rest))
 }

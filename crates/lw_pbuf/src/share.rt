@@ -1,5 +1,5 @@
 //! Shares: a second chain of the same octets, with owners of its own.
-ghost use Rattle.std.specs.Prelude.{◌≡◌, ◌+◌, ◌^◌, ◌<◌, ◌≤◌, ◌↔◌, [], ◌++◌, Bool, true, false, length, vec_capacity, IfOk, OnOk, OnErr};
+ghost use Rattle.std.specs.Prelude.{◌≡◌, ◌+◌, ◌^◌, ◌<◌, ◌≤◌, ◌↔◌, [], ◌++◌, Bool, true, false, length, IfOk, OnOk, OnErr};
 ghost use Rattle.std.specs.Arc.{arc_value};
 ghost use Rattle.std.specs.List.{AllZip};
 ghost use Rattle.lw_payload.specs.declared.kinds.ShareFault.{ShareFault};
@@ -14,6 +14,7 @@ use lw_payload::ShareFault;
 use pbuf_counts::Counts;
 use pbuf_seats::PoolSeat;
 use pbuf_spans::{Span, Twin};
+use smallvec::SmallVec;
 use std::alloc::Global;
 use std::sync::Arc;
 
@@ -70,32 +71,22 @@ impl Chain {
         ensures err { OnErr result (self.new ≡ self.old) }
         ensures same { seat.new ≡ seat.old }
     {
-        if !self.has_adds() {
+        if !have_adds(self.spans.as_slice()) {
             return Err(ShareFault::TooMany);
         }
         let counts = seat.counts()?;
-        if !self.rest.is_empty() {
+        if self.spans.len() != 1 {
             return self.share_all(seat, hands, counts);
         }
-        let rest = Vec::new(*self.rest.allocator());
-        let first = self.first.share(seat, hands)?;
+        let alloc = *self.spans.allocator();
+        let span = share_one(self.spans.as_mut_slice(), seat, hands)?;
         Ok(Chain {
             counts,
-            first,
-            rest,
+            spans: SmallVec::from_buf(alloc, [span]),
         })
     }
 
-    // Whether each owner may add one.
-    #[inline(always)]
-    fn has_adds(&self) -> bool
-        ensures some { result ≡ true → 0 < least_adds self.now.parts }
-        ensures none { result ≡ false → least_adds self.now.parts ≡ 0 }
-    {
-        self.first.has_adds() && have_adds(self.rest.as_slice())
-    }
-
-    // A second chain of the same octets, where there are several spans.
+    // A second chain of the same octets, where there are several spans or none.
     #[inline(never)]
     fn share_all(
         &mut self,
@@ -109,21 +100,16 @@ impl Chain {
         ensures err { OnErr result ((result ≡ Err ShareFault.NoMemory) × (self.new ≡ self.old)) }
         ensures same { seat.new ≡ seat.old }
     {
-        let alloc = *self.rest.allocator();
-        let mut rest = Vec::with_capacity(alloc, self.rest.len())?;
-        let twin = self.first.twin(seat)?;
-        let twins = twins(alloc, self.rest.as_slice(), seat)?;
-        let first = self.first.share_with(twin, seat, hands);
-        share_spans(self.rest.as_mut_slice(), twins, &mut rest, seat, hands);
-        Ok(Chain {
-            counts,
-            first,
-            rest,
-        })
+        let alloc = *self.spans.allocator();
+        let mut spans = SmallVec::with_capacity(alloc, self.spans.len())?;
+        let twins = twins(alloc, self.spans.as_slice(), seat)?;
+        share_spans(self.spans.as_mut_slice(), twins, &mut spans, seat, hands);
+        Ok(Chain { counts, spans })
     }
 }
 
 // Whether each owner may add one.
+#[inline(always)]
 fn have_adds(spans: &[Span]) -> bool
     ensures some { result ≡ true → 0 < least_adds (all_parts spans.now) }
     ensures none { result ≡ false → least_adds (all_parts spans.now) ≡ 0 }
@@ -134,6 +120,20 @@ fn have_adds(spans: &[Span]) -> bool
         }
     }
     true
+}
+
+// A second span for the one span of a chain.
+#[inline(always)]
+fn share_one(spans: &mut [Span], seat: &mut PoolSeat, hands: bool) -> Result<Span, NoMemory>
+    requires one { length spans.old ≡ 1 }
+    requires may { MayShare seat.old (all_parts spans.old) }
+    ensures shared { IfOk result (λ o. AllShared hands (all_parts spans.old) (all_parts spans.new) o) }
+    ensures full { NoneEmpty spans.old → NoneEmpty spans.new }
+    ensures some { IfOk result (λ o. NoneEmpty spans.old → 0 < length o) }
+    ensures err { OnErr result (spans.new ≡ spans.old) }
+    ensures same { seat.new ≡ seat.old }
+{
+    spans[0].share(seat, hands)
 }
 
 // Memory for shares of these spans, one for each.
@@ -152,17 +152,17 @@ fn twins(alloc: Global, spans: &[Span], seat: &mut PoolSeat) -> Result<Vec<Twin>
 fn share_spans(
     spans: &mut [Span],
     twins: Vec<Twin>,
-    others: &mut Vec<Span>,
+    others: &mut SmallVec<Span, 1>,
     seat: &mut PoolSeat,
     hands: bool,
 )
     requires twins { AllZip IsTwin spans.old twins.items }
     requires may { MayShare seat.old (all_parts spans.old) }
     requires none { others.old.items ≡ [] }
-    requires room { length spans.old ≤ vec_capacity others.old }
+    requires room { length spans.old ≤ others.old.capacity }
     ensures shared { AllShared hands (all_parts spans.old) (all_parts spans.new) (all_parts others.new.items) }
     ensures full { NoneEmpty spans.old → NoneEmpty spans.new × NoneEmpty others.new.items }
-    ensures capacity { vec_capacity others.new ≡ vec_capacity others.old }
+    ensures capacity { others.new.capacity ≡ others.old.capacity }
     ensures same { seat.new ≡ seat.old }
 {
     let mut i = 0;

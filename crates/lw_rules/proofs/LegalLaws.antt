@@ -15,12 +15,13 @@ use Rattle.lw_script.specs.Parts.{limits_of}
 use Rattle.lw_script.specs.Driver.{driver_calls}
 use Rattle.lw_transcript.specs.declared.lines.CoreLine.{CoreLine}
 use Rattle.lw_transcript.specs.declared.lines.Evidence.TheVariants.{At}
-use Rattle.lw_transcript.specs.declared.lines.Outcome.TheVariants.{Ok as OkOutcome, Fed}
+use Rattle.lw_transcript.specs.declared.lines.Evidence.{Evidence}
+use Rattle.call_types.specs.declared.outcome.Outcome.TheVariants.{Ok as OkOutcome, Fed}
 use Rattle.lw_transcript.specs.declared.lines.CallPart.{CallPart}
 use Rattle.lw_transcript.specs.declared.lines.ActorPart.{ActorPart}
 use Rattle.lw_transcript.specs.declared.lines.Body.{Body}
 use Rattle.lw_rules.specs.Lines.{core_lines_from}
-use Rattle.lw_rules.specs.Schedule.{entries_of, named_from, after_calls, call_parts, beginning, body_of, serial_transcript}
+use Rattle.lw_rules.specs.Schedule.{entries_of, named_from, after_calls, call_parts, beginning, body_of, serial_body, serial_transcript}
 use Rattle.lw_rules.specs.Legal.{count_from, names_in, names_of, IsFrameLine, AreCalls, ReplayRule, GrantRule, InputRule, EndRule, IsLegal}
 use Rattle.lw_rules.proofs.LinesLaws.{IsGranted, entries_granted, lines_granted, replay_entries, entries_back, numbers_of_lines, length-core_lines_from, frames_of_lines, count_lines, count_from-append, count_rises, seam, frames_given}
 
@@ -28,6 +29,11 @@ use Rattle.lw_rules.proofs.LinesLaws.{IsGranted, entries_granted, lines_granted,
 names_of_named : (n : ℕ) (frames : List (List ℕ)) → names_in (named_from n frames) ≡ count_from (n + 1) frames
 names_of_named n [] = refl
 names_of_named n (frame ∷ frames) = ap (λ (ns : List ℕ). (n + 1) ∷ ns) (names_of_named (n + 1) frames)
+
+-- the evidence of frames names lines alone
+named_alone : (n : ℕ) (frames : List (List ℕ)) → named_from n frames ≡ map At (names_in (named_from n frames))
+named_alone n [] = refl
+named_alone n (frame ∷ frames) = ap (λ (seen : List Evidence). At (n + 1) ∷ seen) (named_alone (n + 1) frames)
 
 -- one line of evidence for each frame
 length-named_from : (n : ℕ) (frames : List (List ℕ)) → length (named_from n frames) ≡ length frames
@@ -113,7 +119,11 @@ calls_made s frames =
     let fed = entries_fed s frames in
     let core = (run_body s frames).core in (
       refl,
-      (lines_named core [] s 0 frames (stop_entry s frames ∷ []) refl refl, ap Fed (sym (length-named_from 0 frames))),
+      (
+        named_alone 0 frames,
+        lines_named core [] s 0 frames (stop_entry s frames ∷ []) refl refl,
+        ap Fed (sym (length-named_from 0 frames)),
+      ),
       (
         refl,
         (
@@ -140,7 +150,7 @@ replayed script frames =
     let entries = entries_fed s frames ++ stop_entry s frames ∷ [] in
     record {
       numbers = numbers_of_lines 1 entries ∙ sym (count_lines 1 1 entries);
-      replay = rw (entries_back 1 entries) (replay_entries s 0 (map Frame frames) (stop_entry s frames ∷ []) (refl, tt));
+      replay = rw (entries_back 1 entries) (replay_entries s 0 frames (stop_entry s frames ∷ []) (tt, refl, tt));
     }
 
 -- each event was granted all
@@ -204,7 +214,8 @@ serial_is_legal script frames only =
     subst (λ (cs : List Call). Legal script frames cs (with_calls script frames cs)) calls (legal_run script frames) in
     record {
       version = refl;
-      kind = refl;
+      body = serial_body script frames;
+      form = refl;
       replay = legal.replay;
       grants = legal.grants;
       calls = record {

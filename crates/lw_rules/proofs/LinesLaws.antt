@@ -6,12 +6,12 @@ use Rattle.std.proofs.lemmas.List.Sums.{sum_by-cons}
 use Rattle.std.specs.List.Sorted.{IsStrictlyIncreasing}
 use Rattle.std.specs.Prelude.{option_to_list}
 use Rattle.lw_events.specs.declared.event.Event.{Event}
-use Rattle.lw_events.specs.declared.event.Event.TheVariants.{Frame, Stop}
+use Rattle.lw_events.specs.declared.event.Event.TheVariants.{Frame}
 use Rattle.lw_events.specs.declared.entry.Entry.{Entry}
 use Rattle.lw_core.specs.State.{State}
-use Rattle.lw_core.specs.Step.{step}
-use Rattle.lw_core.specs.History.{IsReplay, entry_of, granted, state_after}
-use Rattle.lw_events.specs.Events.{grants_of}
+use Rattle.lw_core.specs.Step.{Served, Fed, Ended, Unserved, served, served_step, step}
+use Rattle.lw_core.specs.History.{IsReplay, IsServed, entry_of, granted, state_after}
+use Rattle.lw_events.specs.Events.{Grants, grants_of, had_place}
 use Rattle.lw_transcript.specs.declared.lines.CoreLine.{CoreLine}
 use Rattle.lw_rules.specs.Lines.{core_lines_from, frames_sent}
 use Rattle.lw_rules.specs.Schedule.{entries_of}
@@ -22,16 +22,20 @@ pub length-entries_of : (s : State) (actor : ℕ) (events : List (Event (List �
 length-entries_of s actor [] = refl
 length-entries_of s actor (event ∷ events) = ap suc (length-entries_of (step s event granted).state actor events)
 
--- events that are made one after another are a replay, before any other replay
-pub replay_entries : (s : State) (actor : ℕ) (events : List (Event (List ℕ))) (more : List Entry) → IsReplay (state_after s events) more → IsReplay s (entries_of s actor events ++ more)
+-- frames that are fed one after another are a replay, before any other replay
+pub replay_entries : (s : State) (actor : ℕ) (frames : List (List ℕ)) (more : List Entry) → IsReplay (state_after s (map Frame frames)) more → IsReplay s (entries_of s actor (map Frame frames) ++ more)
 replay_entries s actor [] more h = h
-replay_entries s actor (Frame octets ∷ events) more h = (refl, replay_entries (step s (Frame octets) granted).state actor events more h)
-replay_entries s actor (Stop ∷ events) more h = (refl, replay_entries (step s Stop granted).state actor events more h)
+replay_entries s actor (octets ∷ frames) more h = (tt, refl, replay_entries (step s (Frame octets) granted).state actor frames more h)
+
+-- what is served tells that it was granted all
+served_granted : (s : State) (x : Served) → record { short = (served_step s x granted).short; places = map had_place (served_step s x granted).posts } ≡ granted
+served_granted s (Fed octets) = refl
+served_granted s Ended = refl
+served_granted s Unserved = refl
 
 -- the entry of an event that is granted all tells that it was
 pub entry_granted : (s : State) (actor : ℕ) (event : Event (List ℕ)) → grants_of (entry_of s actor event granted) ≡ granted
-entry_granted s actor (Frame octets) = refl
-entry_granted s actor Stop = refl
+entry_granted s actor event = served_granted s (served event)
 
 -- what an entry tells of its grants is that all was granted: no pool was short for it, and it posted nothing
 abbrev pub IsGranted : Entry → Type 0

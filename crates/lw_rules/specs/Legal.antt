@@ -14,16 +14,16 @@ use Rattle.lw_script.specs.declared.parts.Script.{Script}
 use Rattle.lw_script.specs.Parts.{call_text, limits_of}
 use Rattle.lw_script.specs.Driver.{driver_calls}
 use Rattle.lw_transcript.specs.declared.lines.Version.TheVariants.{One}
-use Rattle.lw_transcript.specs.declared.lines.Kind.TheVariants.{Serial}
+use Rattle.lw_transcript.specs.declared.lines.Form.TheVariants.{Serial}
 use Rattle.lw_transcript.specs.declared.lines.CoreLine.{CoreLine}
 use Rattle.lw_transcript.specs.declared.lines.Evidence.{Evidence}
-use Rattle.lw_transcript.specs.declared.lines.Evidence.TheVariants.{At}
-use Rattle.lw_transcript.specs.declared.lines.Outcome.TheVariants.{Ok as OkOutcome, Fed}
+use Rattle.lw_transcript.specs.declared.lines.Evidence.TheVariants.{At, Saw}
+use Rattle.call_types.specs.declared.outcome.Outcome.TheVariants.{Ok as OkOutcome, Fed}
 use Rattle.lw_transcript.specs.declared.lines.CallPart.{CallPart}
 use Rattle.lw_transcript.specs.declared.lines.ActorPart.{ActorPart}
 use Rattle.lw_transcript.specs.declared.lines.Body.{Body}
 use Rattle.lw_transcript.specs.declared.lines.Transcript.{Transcript}
-use Rattle.lw_rules.specs.Schedule.{serial_transcript}
+use Rattle.lw_rules.specs.Schedule.{serial_body}
 
 -- as many numbers as there are elements, counted from n
 abbrev pub count_from : {A : Type 0} → ℕ → List A → List ℕ
@@ -39,11 +39,12 @@ pub record ReplayRule (script : Script) (body : Body) : Type 0 where
 abbrev pub names_in : List Evidence → List ℕ
 names_in [] = []
 names_in (At n ∷ seen) = n ∷ names_in seen
+names_in (Saw sight ∷ seen) = names_in seen
 
 -- the frame of an event, where it has one
 abbrev pub frame_in : Event (List ℕ) → Option (List ℕ)
 frame_in (Frame octets) = Some octets
-frame_in StopEvent = None
+frame_in other = None
 
 -- core line n, counted from 1, is an actor's, and it was given this event
 pub record IsLine (core : List CoreLine) (actor n : ℕ) (event : Event (List ℕ)) : Type 0 where
@@ -58,10 +59,11 @@ pub record IsLine (core : List CoreLine) (actor n : ℕ) (event : Event (List �
 abbrev pub IsFrameLine : List CoreLine → ℕ → ℕ → Type 0
 IsFrameLine core actor n = (octets : List ℕ) × IsLine core actor n (Frame octets)
 
--- the call relation: `feed all` names one line of a frame for each frame that it fed; `stop` names its line
+-- the call relation: `feed all` names one line of a frame for each frame that it fed, and saw nothing else; `stop` names its line
 abbrev pub IsCall : List CoreLine → ℕ → Call → CallPart → Type 0
 IsCall core actor FeedAll part =
-    All (IsFrameLine core actor) (names_in part.seen) × (part.result ≡ Fed (length part.seen))
+    (part.seen ≡ map At (names_in part.seen)) × All (IsFrameLine core actor) (names_in part.seen)
+    × (part.result ≡ Fed (length part.seen))
 IsCall core actor Stop part =
     (n : ℕ) × (part.seen ≡ At n ∷ []) × IsLine core actor n StopEvent × (part.result ≡ OkOutcome)
 
@@ -85,7 +87,7 @@ pub record CallRule (script : Script) (frames : List (List ℕ)) (body : Body) :
   pub calls : AreCalls body.core 0 (driver_calls script) driver.calls
   pub rise : IsStrictlyIncreasing (names_of driver)
   pub named : names_of driver ≡ map (λ line. line.number) body.core
-  pub schedule : body ≡ (serial_transcript script frames).body
+  pub schedule : body ≡ serial_body script frames
 
 -- the input rule: the frames that were fed are those of the capture, each once, in order
 pub record InputRule (frames : List (List ℕ)) (body : Body) : Type 0 where
@@ -103,9 +105,10 @@ pub record GrantRule (body : Body) : Type 0 where
 -- the legal transcripts of `serial`
 pub record IsLegal (script : Script) (frames : List (List ℕ)) (t : Transcript) : Type 0 where
   pub version : t.version ≡ One
-  pub kind : t.kind ≡ Serial
-  pub replay : ReplayRule script t.body
-  pub grants : GrantRule t.body
-  pub calls : CallRule script frames t.body
-  pub input : InputRule frames t.body
-  pub ends : EndRule t.body
+  pub body : Body
+  pub form : t.form ≡ Serial body
+  pub replay : ReplayRule script body
+  pub grants : GrantRule body
+  pub calls : CallRule script frames body
+  pub input : InputRule frames body
+  pub ends : EndRule body

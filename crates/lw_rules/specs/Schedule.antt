@@ -1,5 +1,5 @@
 -- The serial schedule: all actors of a script on one thread, turn by turn. The driver is actor 0.
-use Rattle.std.specs.Prelude.{ℕ, ◌+◌, List, [], ◌∷◌, ◌++◌, length, map}
+use Rattle.std.specs.Prelude.{ℕ, ◌+◌, List, [], ◌∷◌, ◌++◌, length, map, None}
 use Rattle.lw_events.specs.declared.event.Event.{Event}
 use Rattle.lw_events.specs.declared.event.Event.TheVariants.{Frame, Stop as StopEvent}
 use Rattle.lw_events.specs.declared.entry.Entry.{Entry}
@@ -12,11 +12,11 @@ use Rattle.lw_script.specs.declared.parts.Script.{Script}
 use Rattle.lw_script.specs.Parts.{call_text, limits_of}
 use Rattle.lw_script.specs.Driver.{driver_calls}
 use Rattle.lw_transcript.specs.declared.lines.Version.TheVariants.{One}
-use Rattle.lw_transcript.specs.declared.lines.Kind.TheVariants.{Serial}
+use Rattle.lw_transcript.specs.declared.lines.Form.TheVariants.{Serial}
 use Rattle.lw_transcript.specs.declared.lines.Evidence.{Evidence}
 use Rattle.lw_transcript.specs.declared.lines.Evidence.TheVariants.{At}
-use Rattle.lw_transcript.specs.declared.lines.Outcome.{Outcome}
-use Rattle.lw_transcript.specs.declared.lines.Outcome.TheVariants.{Ok as OkOutcome, Fed}
+use Rattle.call_types.specs.declared.outcome.Outcome.{Outcome}
+use Rattle.call_types.specs.declared.outcome.Outcome.TheVariants.{Ok as OkOutcome, Fed}
 use Rattle.lw_transcript.specs.declared.lines.CallPart.{CallPart}
 use Rattle.lw_transcript.specs.declared.lines.Body.{Body}
 use Rattle.lw_transcript.specs.declared.lines.Transcript.{Transcript}
@@ -80,17 +80,19 @@ call_parts c actor (call ∷ calls) =
 -- the body that a history and what the driver's calls saw are written as
 abbrev pub body_of : List Entry → List CallPart → Body
 body_of entries calls = record {
+  sizes = None;
   core = core_lines_from 1 entries;
   actors = record { calls = calls } ∷ [];
-  end = record { core = length entries; out = frames_sent entries };
+  left = [];
+  end = record { core = length entries; out = frames_sent entries; pools = None };
 }
 
--- the transcript of the serial schedule, for a script and the frames of a capture
-abbrev pub serial_transcript : Script → List (List ℕ) → Transcript
-serial_transcript script frames =
+-- the body of the serial schedule, for a script and the frames of a capture
+abbrev pub serial_body : Script → List (List ℕ) → Body
+serial_body script frames =
     let c = beginning script frames in
-    record {
-      version = One;
-      kind = Serial;
-      body = body_of (after_calls c 0 (driver_calls script)).entries (call_parts c 0 (driver_calls script));
-    }
+    body_of (after_calls c 0 (driver_calls script)).entries (call_parts c 0 (driver_calls script))
+
+-- the transcript of it
+abbrev pub serial_transcript : Script → List (List ℕ) → Transcript
+serial_transcript script frames = record { version = One; form = Serial (serial_body script frames) }

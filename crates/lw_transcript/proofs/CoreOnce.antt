@@ -1,112 +1,156 @@
--- The text of core lines is of one list of them.
-use Rattle.std.proofs.Common.{◌≡◌, ◌≢◌, ℕ, ◌⊎◌, inl, inr, Bool, true, false, List, [], ◌∷◌, ◌++◌, refl, sym, ap, ◌∙◌, arith, codes, decimal, append_assoc}
-use Rattle.std.proofs.lemmas.List.{append_cancel_left}
+-- The text of core lines is of one list of them, but for the octets that were posted.
+use Rattle.std.proofs.Common.{◌≡◌, ◌≢◌, ℕ, ◌⊎◌, inl, inr, ◌^◌, ◌<◌, Bool, true, false, ◌&&◌, List, [], ◌∷◌, ◌++◌, map, All, refl, sym, ap, ◌∙◌, subst, arith, codes, decimal, append_assoc}
+use Rattle.std.proofs.lemmas.Bool.{and_parts}
+use Rattle.std.proofs.lemmas.Fmt.{decimal_injective}
+use Rattle.std.proofs.lemmas.List.{append_cancel_left, map-append}
+use Rattle.std.proofs.lemmas.List.Elements.{All-cons, All-head, All-nil, All-tail}
+use Rattle.std.proofs.lemmas.List.Folds.{list_all-append}
 use Rattle.std.specs.List.{flat_map}
 use Rattle.hex.specs.Hex.{IsBytes, encode_lower}
 use Rattle.lw_events.specs.declared.event.Event.{Event}
-use Rattle.lw_events.specs.declared.event.Event.TheVariants.{Frame, Stop}
 use Rattle.lw_events.specs.declared.event.Reply.{Reply}
-use Rattle.lw_events.specs.declared.event.Reply.TheVariants.{Done}
-use Rattle.lw_events.specs.declared.entry.ItemText.{ItemText}
-use Rattle.lw_events.specs.declared.entry.ItemText.TheVariants.{Segment, Datagram, Accepted}
 use Rattle.lw_events.specs.declared.entry.Post.{Post}
 use Rattle.lw_events.specs.declared.entry.Post.TheVariants.{Item, Full}
+use Rattle.lw_events.specs.declared.entry.Entry.{Entry}
 use Rattle.lw_transcript.specs.declared.lines.CoreLine.{CoreLine}
-use Rattle.lw_transcript.specs.Transcript.{core_lines, core_text, event_text, item_text, out_text, post_text, reply_text, short_text}
-use Rattle.lw_transcript.specs.Laws.{IsToldCore, IsToldEvent, IsToldItem, IsToldPost}
-use Rattle.lw_transcript.proofs.Cut.{decimal_once, hex_once}
-use Rattle.lw_transcript.proofs.LineLists.{Anything, ReadOnce, apart, each_once, first, regroup}
+use Rattle.lw_transcript.specs.Fields.{Field, Word, Number, Hex, field_text, line}
+use Rattle.lw_transcript.specs.CoreLines.{core_fields, core_lines, core_text, event_fields, item_fields, out_text, post_fields, post_text, reply_fields, short_fields}
+use Rattle.lw_transcript.specs.Laws.{AreHeld, IsHeld, IsToldCore, bare_core, bare_post}
+use Rattle.lw_transcript.proofs.FieldsBack.{are_plain, field_as, is_plain}
+use Rattle.lw_transcript.proofs.WordsOnce.{line_once}
+use Rattle.lw_transcript.proofs.EventsBack.{event_back, event_in, event_plain, reply_back, reply_in, reply_plain}
+use Rattle.lw_transcript.proofs.PostsBack.{post_back, post_in, post_plain}
+use Rattle.lw_transcript.proofs.LineLists.{Anything, ReadOnce, apart, each_once, first, regroup, same_list, whole}
+use Rattle.lw_transcript.proofs.Cut.{hex_injective}
 
--- an event, before a space
-event_once : (a b : Event (List ℕ)) (r s : List ℕ) → IsToldEvent a → IsToldEvent b → event_text a ++ 32 ∷ r ≡ event_text b ++ 32 ∷ s → (a ≡ b) × (r ≡ s)
-event_once (Frame x) (Frame y) r s h k e =
-    let texts : encode_lower x ++ 32 ∷ r ≡ encode_lower y ++ 32 ∷ s = append_cancel_left (codes "frame ") (encode_lower x ++ 32 ∷ r) (encode_lower y ++ 32 ∷ s) e in
-    let cut = hex_once 32 x y r s refl h k texts in
-    (ap Frame cut.0, cut.1)
-event_once (Frame x) Stop r s h k e = apart 102 115 (omega arith) (ap first e)
-event_once Stop (Frame y) r s h k e = apart 115 102 (omega arith) (ap first e)
-event_once Stop Stop r s h k e = (refl, append_cancel_left (codes "stop ") r s e)
+-- the first of two parts
+front_held : (xs ys : List Field) → AreHeld (xs ++ ys) → AreHeld xs
+front_held [] ys h = All-nil IsHeld
+front_held (x ∷ xs) ys h = All-cons IsHeld x xs (All-head IsHeld x (xs ++ ys) h) (front_held xs ys (All-tail IsHeld x (xs ++ ys) h))
 
--- a reply
-reply_once : (a b : Reply) (r s : List ℕ) → reply_text a ++ r ≡ reply_text b ++ s → (a ≡ b) × (r ≡ s)
-reply_once Done Done r s e = (refl, append_cancel_left (codes "ok") r s e)
+-- the second
+back_held : (xs ys : List Field) → AreHeld (xs ++ ys) → AreHeld ys
+back_held [] ys h = h
+back_held (x ∷ xs) ys h = back_held xs ys (All-tail IsHeld x (xs ++ ys) h)
 
--- the word on a short pool, before the end of the line
-short_once : (a b : Bool) (r s : List ℕ) → short_text a ++ 10 ∷ r ≡ short_text b ++ 10 ∷ s → (a ≡ b) × (r ≡ s)
-short_once true true r s e = (refl, append_cancel_left (codes " short\n") r s e)
-short_once true false r s e = apart 32 10 (omega arith) (ap first e)
-short_once false true r s e = apart 10 32 (omega arith) (ap first e)
-short_once false false r s e = (refl, append_cancel_left (codes "\n") r s e)
+short_plain : (x : Bool) → are_plain (short_fields x) ≡ true
+short_plain true = refl
+short_plain false = refl
 
--- the parts of the line of an event
-core_parts : (a b c d e r : List ℕ)
-    → (codes "core " ++ a ++ codes " " ++ b ++ codes " " ++ c ++ codes " -> " ++ d ++ e ++ codes "\n") ++ r
-    ≡ codes "core " ++ (a ++ 32 ∷ (b ++ 32 ∷ (c ++ 32 ∷ (codes "-> " ++ (d ++ (e ++ 10 ∷ r))))))
-core_parts a b c d e r = simp append_assoc
+short_once : (x y : Bool) → map field_text (short_fields x) ≡ map field_text (short_fields y) → x ≡ y
+short_once true true e = refl
+short_once true false e = absurd (let no : codes "short" ∷ [] ≡ [] = e in cc)
+short_once false true e = absurd (let no : [] ≡ codes "short" ∷ [] = e in cc)
+short_once false false e = refl
+
+-- the fields behind the actor
+abbrev behind_actor : Entry → List Field
+behind_actor x = event_fields x.event ++ Word (codes "->") ∷ (reply_fields x.reply ++ short_fields x.short)
+
+behind_plain : (x : Entry) → are_plain (behind_actor x) ≡ true
+behind_plain x =
+    let a = event_plain x.event in
+    let b = reply_plain x.reply in
+    let c = short_plain x.short in
+    list_all-append is_plain (event_fields x.event) (Word (codes "->") ∷ (reply_fields x.reply ++ short_fields x.short))
+    ∙ (rw (a, list_all-append is_plain (reply_fields x.reply) (short_fields x.short), b, c) refl)
+
+-- the words behind the actor
+abbrev end_words : Entry → List (List ℕ)
+end_words x = map field_text (reply_fields x.reply) ++ map field_text (short_fields x.short)
+
+words_behind : (x : Entry) → map field_text (behind_actor x) ≡ map field_text (event_fields x.event) ++ codes "->" ∷ end_words x
+words_behind x =
+    map-append field_text (event_fields x.event) (Word (codes "->") ∷ (reply_fields x.reply ++ short_fields x.short))
+    ∙ ap (λ (ws : List (List ℕ)). map field_text (event_fields x.event) ++ codes "->" ∷ ws) (map-append field_text (reply_fields x.reply) (short_fields x.short))
+
+-- what the words behind the actor are of
+record SameEnd (x y : Entry) : Type 0 where
+  event : x.event ≡ y.event
+  reply : x.reply ≡ y.reply
+  short : x.short ≡ y.short
+
+end_once : (x y : Entry) → AreHeld (behind_actor x) → AreHeld (behind_actor y) → map field_text (behind_actor x) ≡ map field_text (behind_actor y) → SameEnd x y
+end_once x y h k e =
+    let words = sym (words_behind x) ∙ e ∙ words_behind y in
+    let event : x.event ≡ y.event =
+    sym (event_back x.event (end_words x) (front_held (event_fields x.event) _ h)) ∙ ap event_in words
+    ∙ event_back y.event (end_words y) (front_held (event_fields y.event) _ k) in
+    let same : map field_text (event_fields x.event) ++ codes "->" ∷ end_words x ≡ map field_text (event_fields x.event) ++ codes "->" ∷ end_words y =
+    words ∙ ap (λ (ev : Event (List ℕ)). map field_text (event_fields ev) ++ codes "->" ∷ end_words y) (sym event) in
+    let arrows : codes "->" ∷ end_words x ≡ codes "->" ∷ end_words y = append_cancel_left (map field_text (event_fields x.event)) (codes "->" ∷ end_words x) (codes "->" ∷ end_words y) same in
+    let rest : end_words x ≡ end_words y = cc in
+    let held_x = All-tail IsHeld (Word (codes "->")) (reply_fields x.reply ++ short_fields x.short) (back_held (event_fields x.event) _ h) in
+    let held_y = All-tail IsHeld (Word (codes "->")) (reply_fields y.reply ++ short_fields y.short) (back_held (event_fields y.event) _ k) in
+    let reply : x.reply ≡ y.reply =
+    sym (reply_back x.reply (map field_text (short_fields x.short)) (front_held (reply_fields x.reply) _ held_x)) ∙ ap reply_in rest
+    ∙ reply_back y.reply (map field_text (short_fields y.short)) (front_held (reply_fields y.reply) _ held_y) in
+    let ends : map field_text (reply_fields x.reply) ++ map field_text (short_fields x.short) ≡ map field_text (reply_fields x.reply) ++ map field_text (short_fields y.short) =
+    rest ∙ ap (λ (re : Reply). map field_text (reply_fields re) ++ map field_text (short_fields y.short)) (sym reply) in
+    record {
+      event = event;
+      reply = reply;
+      short = short_once x.short y.short (append_cancel_left (map field_text (reply_fields x.reply)) (map field_text (short_fields x.short)) (map field_text (short_fields y.short)) ends);
+    }
 
 -- the line of an event is of one number and one entry, but for posts and frames
 record SameLine (a b : CoreLine) (r s : List ℕ) : Type 0 where
   number : a.number ≡ b.number
   actor : a.entry.actor ≡ b.entry.actor
-  event : a.entry.event ≡ b.entry.event
-  reply : a.entry.reply ≡ b.entry.reply
-  short : a.entry.short ≡ b.entry.short
+  end : SameEnd a.entry b.entry
   behind : r ≡ s
 
-line_once : (a b : CoreLine) (r s : List ℕ) → IsToldCore a → IsToldCore b → core_text a.number a.entry ++ r ≡ core_text b.number b.entry ++ s → SameLine a b r s
-line_once a b r s h k e =
+core_line_once : (a b : CoreLine) (r s : List ℕ) → IsToldCore a → IsToldCore b → core_text a.number a.entry ++ r ≡ core_text b.number b.entry ++ s → SameLine a b r s
+core_line_once a b r s h k e =
     let x = a.entry in
     let y = b.entry in
-    let parts = sym (core_parts (decimal a.number) (decimal x.actor) (event_text x.event) (reply_text x.reply) (short_text x.short) r) ∙ e
-    ∙ core_parts (decimal b.number) (decimal y.actor) (event_text y.event) (reply_text y.reply) (short_text y.short) s in
-    let number = decimal_once 32 a.number b.number _ _ (omega arith) h.number k.number (append_cancel_left (codes "core ") _ _ parts) in
-    let actor = decimal_once 32 x.actor y.actor _ _ (omega arith) h.actor k.actor number.1 in
-    let event = event_once x.event y.event _ _ h.event k.event actor.1 in
-    let reply = reply_once x.reply y.reply _ _ (append_cancel_left (codes "-> ") _ _ event.1) in
-    let short = short_once x.short y.short r s reply.1 in
-    record { number = number.0; actor = actor.0; event = event.0; reply = reply.0; short = short.0; behind = short.1 }
-
--- the parts of a line of one word
-pub line_parts : (word a r : List ℕ) → (word ++ a ++ codes "\n") ++ r ≡ word ++ (a ++ 10 ∷ r)
-line_parts word a r = simp append_assoc
+    let xs = Number a.number ∷ Number x.actor ∷ behind_actor x in
+    let ys = Number b.number ∷ Number y.actor ∷ behind_actor y in
+    let words = line_once (Word (codes "core")) (Word (codes "core")) xs ys r s (behind_plain x) (behind_plain y) h.fields k.fields e in
+    let both = words.0 in
+    let held_x = All-tail IsHeld (Word (codes "core")) xs h.fields in
+    let held_y = All-tail IsHeld (Word (codes "core")) ys k.fields in
+    let more_x = All-tail IsHeld (Number a.number) (Number x.actor ∷ behind_actor x) held_x in
+    let more_y = All-tail IsHeld (Number b.number) (Number y.actor ∷ behind_actor y) held_y in
+    let na : a.number < 2 ^ 32 = All-head IsHeld (Number a.number) (Number x.actor ∷ behind_actor x) held_x in
+    let nb : b.number < 2 ^ 32 = All-head IsHeld (Number b.number) (Number y.actor ∷ behind_actor y) held_y in
+    let xa : x.actor < 2 ^ 32 = All-head IsHeld (Number x.actor) (behind_actor x) more_x in
+    let ya : y.actor < 2 ^ 32 = All-head IsHeld (Number y.actor) (behind_actor y) more_y in
+    let numbers : decimal a.number ≡ decimal b.number = cc in
+    let actors : decimal x.actor ≡ decimal y.actor = cc in
+    let rest : map field_text (behind_actor x) ≡ map field_text (behind_actor y) = cc in
+    record {
+      number = decimal_injective a.number b.number (omega arith) (omega arith) numbers;
+      actor = decimal_injective x.actor y.actor (omega arith) (omega arith) actors;
+      end = end_once x y (All-tail IsHeld (Number x.actor) (behind_actor x) more_x) (All-tail IsHeld (Number y.actor) (behind_actor y) more_y) rest;
+      behind = words.1;
+    }
 
 -- the line of a frame
-pub out_once : (a b r s : List ℕ) → IsBytes a → IsBytes b → out_text a ++ r ≡ out_text b ++ s → (a ≡ b) × (r ≡ s)
+out_once : (a b r s : List ℕ) → IsBytes a → IsBytes b → out_text a ++ r ≡ out_text b ++ s → (a ≡ b) × (r ≡ s)
 out_once a b r s h k e =
-    let parts = sym (line_parts (codes "out ") (encode_lower a) r) ∙ e ∙ line_parts (codes "out ") (encode_lower b) s in
-    hex_once 10 a b r s refl h k (append_cancel_left (codes "out ") (encode_lower a ++ 10 ∷ r) (encode_lower b ++ 10 ∷ s) parts)
-
--- an item, before the end of the line
-item_once : (a b : ItemText) (r s : List ℕ) → IsToldItem a → IsToldItem b → item_text a ++ 10 ∷ r ≡ item_text b ++ 10 ∷ s → (a ≡ b) × (r ≡ s)
-item_once (Segment x) b r s h k e = absurd h
-item_once (Datagram ip port x) b r s h k e = absurd h
-item_once (Accepted x) (Segment y) r s h k e = absurd k
-item_once (Accepted x) (Datagram ip port y) r s h k e = absurd k
-item_once (Accepted x) (Accepted y) r s h k e =
-    let cut = decimal_once 10 x y r s (omega arith) h k (append_cancel_left (codes "conn ") (decimal x ++ 10 ∷ r) (decimal y ++ 10 ∷ s) e) in
-    (ap Accepted cut.0, cut.1)
-
--- the parts of the line of a post
-post_parts : (a b c r : List ℕ) → (codes "post " ++ a ++ codes " " ++ b ++ codes " " ++ c ++ codes "\n") ++ r ≡ codes "post " ++ (a ++ 32 ∷ (b ++ 32 ∷ (c ++ 10 ∷ r)))
-post_parts a b c r = simp append_assoc
+    let held = λ (octets : List ℕ) (bytes : IsBytes octets). All-cons IsHeld (Word (codes "out")) (Hex octets ∷ []) tt (All-cons IsHeld (Hex octets) [] bytes (All-nil IsHeld)) in
+    let words = line_once (Word (codes "out")) (Word (codes "out")) (Hex a ∷ []) (Hex b ∷ []) r s refl refl (held a h) (held b k) e in
+    let both = words.0 in
+    let texts : encode_lower a ≡ encode_lower b = cc in
+    (hex_injective a b h k texts, words.1)
 
 -- the line of a post
-post_once : (a b : Post) (r s : List ℕ) → IsToldPost a → IsToldPost b → post_text a ++ r ≡ post_text b ++ s → (a ≡ b) × (r ≡ s)
-post_once (Item c t x) (Item d u y) r s h k e =
-    let parts = sym (post_parts (decimal c) (decimal t) (item_text x) r) ∙ e ∙ post_parts (decimal d) (decimal u) (item_text y) s in
-    let conn = decimal_once 32 c d _ _ (omega arith) h.0 k.0 (append_cancel_left (codes "post ") _ _ parts) in
-    let ticket = decimal_once 32 t u _ _ (omega arith) h.1 k.1 conn.1 in
-    let item = item_once x y r s h.2 k.2 ticket.1 in
-    let conns : c ≡ d = conn.0 in
-    let tickets : t ≡ u = ticket.0 in
-    let items : x ≡ y = item.0 in
-    (cc, item.1)
-post_once (Item c t x) (Full d) r s h k e = apart 112 102 (omega arith) (ap first e)
-post_once (Full c) (Item d u y) r s h k e = apart 102 112 (omega arith) (ap first e)
-post_once (Full c) (Full d) r s h k e =
-    let parts = sym (line_parts (codes "full ") (decimal c) r) ∙ e ∙ line_parts (codes "full ") (decimal d) s in
-    let cut = decimal_once 10 c d r s (omega arith) h k (append_cancel_left (codes "full ") (decimal c ++ 10 ∷ r) (decimal d ++ 10 ∷ s) parts) in
-    (ap Full cut.0, cut.1)
+abbrev IsToldPost : Post → Type 0
+IsToldPost post = AreHeld (post_fields post)
+
+post_parts : (x y : Post) (r s : List ℕ) → IsToldPost x → IsToldPost y → post_text x ++ r ≡ post_text y ++ s → (map field_text (post_fields x) ≡ map field_text (post_fields y)) × (r ≡ s)
+post_parts (Item c t x) (Item d u y) r s h k e =
+    line_once (Word (codes "post")) (Word (codes "post")) (Number c ∷ Number t ∷ item_fields x) (Number d ∷ Number u ∷ item_fields y) r s (post_plain (Item c t x)) (post_plain (Item d u y)) h k e
+post_parts (Item c t x) (Full d) r s h k e = apart 112 102 (omega arith) (ap first e)
+post_parts (Full c) (Item d u y) r s h k e = apart 102 112 (omega arith) (ap first e)
+post_parts (Full c) (Full d) r s h k e =
+    line_once (Word (codes "full")) (Word (codes "full")) (Number c ∷ []) (Number d ∷ []) r s refl refl h k e
+
+post_once : (x y : Post) (r s : List ℕ) → IsToldPost x → IsToldPost y → post_text x ++ r ≡ post_text y ++ s → (bare_post x ≡ bare_post y) × (r ≡ s)
+post_once x y r s h k e =
+    let words = post_parts x y r s h k e in
+    (sym (post_back x [] h) ∙ ap (λ (ws : List (List ℕ)). post_in (ws ++ [])) words.0 ∙ post_back y [] k, words.1)
 
 -- the line of a post begins as no other does
 abbrev BeginsPost : List ℕ → Type 0
@@ -116,14 +160,14 @@ post_begins : (a : Post) (r : List ℕ) → BeginsPost (post_text a ++ r)
 post_begins (Item c t x) r = inl refl
 post_begins (Full c) r = inr refl
 
-posts_read : ReadOnce post_text IsToldPost BeginsPost Anything
+posts_read : ReadOnce post_text bare_post IsToldPost BeginsPost Anything
 posts_read = record { begins = post_begins; goes_on = λ _ _. tt; once = λ a b r s h k _ _ e. post_once a b r s h k e }
 
 -- so does the line of a frame
 abbrev BeginsOut : List ℕ → Type 0
 BeginsOut r = first r ≡ 111
 
-outs_read : ReadOnce out_text IsBytes BeginsOut Anything
+outs_read : ReadOnce out_text whole IsBytes BeginsOut Anything
 outs_read = record { begins = λ _ _. refl; goes_on = λ _ _. tt; once = λ a b r s h k _ _ e. out_once a b r s h k e }
 
 -- what stands behind a core line begins with no post and no frame
@@ -144,27 +188,28 @@ outs_behind (x ∷ xs) r h b =
       | inr f ↦ apart 111 102 (omega arith) f
     ]
 
-core_once : (a b : CoreLine) (r s : List ℕ) → IsToldCore a → IsToldCore b → IsBehindCore r → IsBehindCore s → core_lines a ++ r ≡ core_lines b ++ s → (a ≡ b) × (r ≡ s)
+core_once : (a b : CoreLine) (r s : List ℕ) → IsToldCore a → IsToldCore b → IsBehindCore r → IsBehindCore s → core_lines a ++ r ≡ core_lines b ++ s → (bare_core a ≡ bare_core b) × (r ≡ s)
 core_once a b r s h k hr hs e =
     let x = a.entry in
     let y = b.entry in
     let left : core_lines a ++ r ≡ core_text a.number x ++ (flat_map post_text x.posts ++ (flat_map out_text x.frames ++ r)) = regroup (core_text a.number x) (flat_map post_text x.posts) (flat_map out_text x.frames) r in
     let right : core_lines b ++ s ≡ core_text b.number y ++ (flat_map post_text y.posts ++ (flat_map out_text y.frames ++ s)) = regroup (core_text b.number y) (flat_map post_text y.posts) (flat_map out_text y.frames) s in
-    let line = line_once a b _ _ h k (sym left ∙ e ∙ right) in
-    let posts = each_once post_text IsToldPost BeginsPost Anything posts_read x.posts y.posts (flat_map out_text x.frames ++ r) (flat_map out_text y.frames ++ s) h.posts k.posts
+    let line = core_line_once a b _ _ h k (sym left ∙ e ∙ right) in
+    let posts = each_once post_text bare_post IsToldPost BeginsPost Anything posts_read x.posts y.posts (flat_map out_text x.frames ++ r) (flat_map out_text y.frames ++ s) h.posts k.posts
     (outs_behind x.frames r hr) (outs_behind y.frames s hs) tt tt line.behind in
-    let outs = each_once out_text IsBytes BeginsOut Anything outs_read x.frames y.frames r s h.frames k.frames hr.out hs.out tt tt posts.1 in
-    let whole : a ≡ b = λ i. record {
+    let outs = each_once out_text whole IsBytes BeginsOut Anything outs_read x.frames y.frames r s h.frames k.frames hr.out hs.out tt tt posts.1 in
+    let frames = same_list x.frames y.frames outs.0 in
+    let same : bare_core a ≡ bare_core b = λ i. record {
       number = line.number i;
-      entry = record { actor = line.actor i; event = line.event i; short = line.short i; posts = posts.0 i; frames = outs.0 i; reply = line.reply i };
+      entry = record { actor = line.actor i; event = line.end.event i; short = line.end.short i; posts = posts.0 i; frames = frames i; reply = line.end.reply i };
     } in
-    (whole, outs.1)
+    (same, outs.1)
 
 -- the core line begins as nothing else does that may stand behind core lines
 abbrev pub BeginsCore : List ℕ → Type 0
 BeginsCore r = first r ≡ 99
 
-pub cores_read : ReadOnce core_lines IsToldCore BeginsCore IsBehindCore
+pub cores_read : ReadOnce core_lines bare_core IsToldCore BeginsCore IsBehindCore
 cores_read = record {
   begins = λ _ _. refl;
   goes_on = λ a r. behind_core (core_lines a ++ r) (omega arith) (omega arith) (omega arith);

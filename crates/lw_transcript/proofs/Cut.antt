@@ -27,7 +27,7 @@ cut_once at (x ∷ xs) (y ∷ ys) r s h k e =
     (cc, later.1)
 
 -- a number has digits alone
-decimal-misses : (at n : ℕ) → at < 48 → n < 2 ^ 64 → Misses at (decimal n)
+pub decimal-misses : (at n : ℕ) → at < 48 → n < 2 ^ 64 → Misses at (decimal n)
 decimal-misses at n below small =
     All-from_get_or (λ c. c ≢ at) (decimal n) 0
     (λ i h. let r : IsInRange 48 57 (get_or (decimal n) i 0) = digit_at (decimal n) i (decimal_is_IsNumeral n small).0.1 h in let ne : get_or (decimal n) i 0 ≢ at = omega arith in ne)
@@ -46,7 +46,7 @@ digit-misses at d none small =
     let other : hex_digit_value (slice_index lower_digits d) ≡ None = ap hex_digit_value same ∙ none in
     cc
 
-hex-misses : (at : ℕ) (xs : List ℕ) → hex_digit_value at ≡ None → IsBytes xs → Misses at (encode_lower xs)
+pub hex-misses : (at : ℕ) (xs : List ℕ) → hex_digit_value at ≡ None → IsBytes xs → Misses at (encode_lower xs)
 unfolding encode_with
 hex-misses at [] none h = All-nil (λ c. c ≢ at)
 hex-misses at (x ∷ xs) none h =
@@ -54,7 +54,7 @@ hex-misses at (x ∷ xs) none h =
     All-cons (λ c. c ≢ at) (slice_index lower_digits (x / 16)) (slice_index lower_digits (x % 16) ∷ encode_lower xs) (digit-misses at (x / 16) none (omega arith))
     (All-cons (λ c. c ≢ at) (slice_index lower_digits (x % 16)) (encode_lower xs) (digit-misses at (x % 16) none (omega arith)) (hex-misses at xs none (λ i. h (suc i))))
 
-hex_injective : (xs ys : List ℕ) → IsBytes xs → IsBytes ys → encode_lower xs ≡ encode_lower ys → xs ≡ ys
+pub hex_injective : (xs ys : List ℕ) → IsBytes xs → IsBytes ys → encode_lower xs ≡ encode_lower ys → xs ≡ ys
 hex_injective xs ys h k e =
     let back = sym (decode_of-encode_lower xs h) ∙ ap decode_of e ∙ decode_of-encode_lower ys k in cc
 

@@ -1,7 +1,13 @@
 pub mod ActorOnce
+pub mod CallsBack
 pub mod CoreOnce
 pub mod Cut
+pub mod EventsBack
+pub mod FieldLists
+pub mod FieldsBack
 pub mod LineLists
 pub mod Once
+pub mod PostsBack
 pub mod Printing
-pub mod TranscriptLaws
+pub mod Tables
+pub mod WordsOnce

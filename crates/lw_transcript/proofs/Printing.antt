@@ -10,6 +10,7 @@ use Rattle.hex.specs.Hex.{encode_lower, encode_with, lower_digits}
 use Rattle.lw_outside.specs.Faults.{HasCause, Rose}
 use Rattle.lw_outside.specs.Sinks.{SinkSeen, Adds, AddsFront}
 use Rattle.lw_transcript.specs.Page.{PageSeen, IsPrinted, Prints}
+use Rattle.lw_transcript.specs.Fields.{Field, behind_text}
 use Rattle.lw_transcript.specs.Transcript.{numbered}
 
 -- one text behind another
@@ -237,3 +238,16 @@ taken_whole s u c text empty calm p =
     let whole : text ≡ p.taken.front =
     p.taken.split ∙ ap (λ (l : List ℕ). p.taken.front ++ l) (p.pending calm ∙ empty) ∙ append-nil p.taken.front in
     p.taken.adds ∙ ap (λ (l : List ℕ). s.took ++ l) (sym whole)
+
+-- fields that are printed behind a line's first word and other fields
+pub Prints-behind : {r s t : SinkSeen} {a b c : PageSeen} (word : List ℕ) (xs ys : List Field) → Prints r s a b (word ++ flat_map behind_text xs)
+    → Prints s t b c (flat_map behind_text ys) → Prints r t a c (word ++ flat_map behind_text (xs ++ ys))
+Prints-behind word xs ys first second =
+    Prints-same (Prints-then first second)
+    (append_assoc word (flat_map behind_text xs) (flat_map behind_text ys)
+    ∙ ap (λ (t : List ℕ). word ++ t) (sym (flat_map-append behind_text xs ys)))
+
+-- fields that are printed behind others
+pub Prints-two : {r s t : SinkSeen} {a b c : PageSeen} (xs ys : List Field) → Prints r s a b (flat_map behind_text xs)
+    → Prints s t b c (flat_map behind_text ys) → Prints r t a c (flat_map behind_text (xs ++ ys))
+Prints-two xs ys first second = Prints-same (Prints-then first second) (sym (flat_map-append behind_text xs ys))

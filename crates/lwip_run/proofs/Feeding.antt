@@ -9,7 +9,7 @@ use Rattle.lw_core.specs.Step.{step}
 use Rattle.lw_core.specs.History.{entry_of, granted, state_after}
 use Rattle.lw_transcript.specs.declared.lines.Evidence.{Evidence}
 use Rattle.lw_transcript.specs.declared.lines.Evidence.TheVariants.{At}
-use Rattle.lw_transcript.specs.declared.lines.Outcome.TheVariants.{Fed}
+use Rattle.call_types.specs.declared.outcome.Outcome.TheVariants.{Fed}
 use Rattle.lw_rules.specs.Schedule.{Configuration, entries_of, made, named_from}
 use Rattle.lwip_run.specs.Plain.{FedAll, TakesFrame}
 

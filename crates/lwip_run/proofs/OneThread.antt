@@ -6,9 +6,9 @@ use Rattle.lw_script.specs.declared.parts.Script.{Script}
 use Rattle.lw_script.specs.Parts.{call_text}
 use Rattle.lw_script.specs.Driver.{driver_calls}
 use Rattle.lw_transcript.specs.declared.lines.Version.TheVariants.{One}
-use Rattle.lw_transcript.specs.declared.lines.Kind.TheVariants.{Serial}
+use Rattle.lw_transcript.specs.declared.lines.Form.TheVariants.{Serial}
 use Rattle.lw_transcript.specs.declared.lines.Evidence.{Evidence}
-use Rattle.lw_transcript.specs.declared.lines.Outcome.{Outcome}
+use Rattle.call_types.specs.declared.outcome.Outcome.{Outcome}
 use Rattle.lw_transcript.specs.declared.lines.CallPart.{CallPart}
 use Rattle.lw_transcript.specs.declared.lines.Body.{Body}
 use Rattle.lw_transcript.specs.declared.lines.Transcript.{Transcript}
@@ -48,14 +48,14 @@ ran_parts c (call ∷ calls) (d ∷ done) after ran =
     ∙ ap (λ (u : Configuration). part t.seen t.result ∷ call_parts u 0 calls) ran.1.config
 
 -- the transcript of a run
-pub run_is_serial : (script : Script) (frames : List (List ℕ)) (begun ended : Configuration) (all : List Progress) (first : Progress) (entries : List Entry) (calls : List Call) (done : List DoneCall) (body : Body) → begun ≡ beginning script frames → IsSerialRun plain_gives script begun all ended → first ≡ slice_index_or all 0 first → done ≡ first.done → entries ≡ ended.entries → calls ≡ driver_calls script → body ≡ body_of entries (parts_of calls done) → record { version = One; kind = Serial; body = body } ≡ serial_transcript script frames
+pub run_is_serial : (script : Script) (frames : List (List ℕ)) (begun ended : Configuration) (all : List Progress) (first : Progress) (entries : List Entry) (calls : List Call) (done : List DoneCall) (body : Body) → begun ≡ beginning script frames → IsSerialRun plain_gives script begun all ended → first ≡ slice_index_or all 0 first → done ≡ first.done → entries ≡ ended.entries → calls ≡ driver_calls script → body ≡ body_of entries (parts_of calls done) → record { version = One; form = Serial body } ≡ serial_transcript script frames
 run_is_serial script frames begun ended all first entries calls done body begins run is_first is_done is_entries is_calls is_body =
     let driver : first ≡ run.driver = is_first ∙ ap (λ (ps : List Progress). slice_index_or ps 0 first) run.only in
     let list : done ≡ run.driver.done = is_done ∙ ap (λ (p : Progress). p.done) driver in
     let ran : Ran plain_gives 0 (beginning script frames) (driver_calls script) done ended =
     subst (λ (ds : List DoneCall). Ran plain_gives 0 (beginning script frames) (driver_calls script) ds ended) (sym list)
     (subst (λ (c : Configuration). Ran plain_gives 0 c (driver_calls script) run.driver.done ended) begins run.ran) in
-    let transcript = λ (b : Body). let t : Transcript = record { version = One; kind = Serial; body = b } in t in
+    let transcript = λ (b : Body). let t : Transcript = record { version = One; form = Serial b } in t in
     ap transcript
     (
     is_body

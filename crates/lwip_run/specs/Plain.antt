@@ -7,8 +7,8 @@ use Rattle.lw_payload.specs.Views.{View, HomeView, IsTooLong}
 use Rattle.lw_payload.specs.Totals.{IsOwned, total}
 use Rattle.lw_script.specs.declared.parts.Call.{Call}
 use Rattle.lw_transcript.specs.declared.lines.Evidence.{Evidence}
-use Rattle.lw_transcript.specs.declared.lines.Outcome.{Outcome}
-use Rattle.lw_transcript.specs.declared.lines.Outcome.TheVariants.{Fed}
+use Rattle.call_types.specs.declared.outcome.Outcome.{Outcome}
+use Rattle.call_types.specs.declared.outcome.Outcome.TheVariants.{Fed}
 use Rattle.lw_actors.specs.declared.api.Step.{Step}
 use Rattle.lw_actors.specs.declared.api.Step.TheVariants.{Did}
 use Rattle.lw_rules.specs.Schedule.{Configuration, Turn, made, named_from, turn}

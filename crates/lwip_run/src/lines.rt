@@ -24,9 +24,15 @@ pub fn body(
     let out = sent(&lines)?;
     let actors = driver_part(alloc, call_parts(alloc, calls, done)?)?;
     Ok(Body {
+        sizes: None,
         core: Series::from_vec(lines),
         actors: Series::from_vec(actors),
-        end: EndLine { core, out },
+        left: Series::from_vec(Vec::new(alloc)),
+        end: EndLine {
+            core,
+            out,
+            pools: None,
+        },
     })
 }
 

@@ -11,7 +11,7 @@ use lw_netif::Netif;
 use lw_payload::Payload;
 use lw_script::Script;
 use lw_serial::run_serial;
-use lw_transcript::{Kind, Transcript, Version};
+use lw_transcript::{Form, Transcript, Version};
 use std::alloc::{AllocError, Global};
 
 /// Runs a script on one thread, fed with these frames, over payloads of this Home, which makes each that
@@ -34,8 +34,7 @@ pub fn serial<P: Payload<Home: Drop>>(
     let body = body(alloc, &calls, done, api.into_history(alloc))?;
     Ok(Transcript {
         version: Version::One,
-        kind: Kind::Serial,
-        body,
+        form: Form::Serial(body),
     })
 }
 

@@ -5,13 +5,14 @@ ghost use Rattle.lw_rules.specs.Schedule.{made, named_from, turn};
 ghost use Rattle.lwip_run.specs.Plain.{FedAll, IsBody, NeverRefuses, TakesFrame};
 
 use crate::history::History;
+use call_types::Outcome;
 use lw_actors::{Api, Step};
 use lw_base::{FrameList, Octets};
 use lw_core::Core;
 use lw_events::Event;
 use lw_payload::{Kind, MakeFault, Payload};
 use lw_script::Call;
-use lw_transcript::{Evidence, Outcome};
+use lw_transcript::Evidence;
 use std::alloc::{AllocError, Global};
 use std::marker::Model;
 use std::vec::IntoIter;

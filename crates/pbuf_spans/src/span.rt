@@ -10,6 +10,8 @@ use crate::NoMemory;
 use crate::body::Body;
 use crate::owners::give_up_all;
 use pbuf_seats::{Pbuf, PoolSeat};
+use std::alloc::Global;
+use std::default::MadeWith;
 use std::marker::Model;
 use std::mem;
 
@@ -39,6 +41,22 @@ impl Model for Span {
     ghost view = { λ s. parts_of (is_own s.body) (slice_range (octets_of s.body) s.from s.to) s.pbufs.items };
 
     ghost invariant = { λ s. IsSpan s.body s.from s.to s.pbufs.items };
+}
+
+/// What stands in a place of a `SmallVec` that has no span: one without pbufs.
+impl MadeWith<Global> for Span {
+    ghost use Rattle.std.specs.Prelude.{◌≡◌, []};
+
+    ghost is_made_with = { λ s. s ≡ [] };
+
+    fn made_with(alloc: Global) -> Span {
+        Span {
+            body: Body::Own(Vec::new(alloc)),
+            from: 0,
+            to: 0,
+            pbufs: Vec::new(alloc),
+        }
+    }
 }
 
 impl Span {

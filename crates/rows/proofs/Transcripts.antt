@@ -1,17 +1,17 @@
 -- The transcripts of two runs, and their texts.
-use Rattle.std.specs.Prelude.{ℕ, ◌≡◌, false, List, [], ◌∷◌, ◌++◌, codes}
+use Rattle.std.specs.Prelude.{ℕ, ◌≡◌, false, List, [], ◌∷◌, ◌++◌, codes, None}
 use Rattle.std.specs.Fmt.{digits}
 use Rattle.std.proofs.Common.{refl}
 use Rattle.hex.specs.Hex.{encode_with}
 use Rattle.lw_transcript.specs.declared.lines.Version.TheVariants.{One}
-use Rattle.lw_transcript.specs.declared.lines.Kind.TheVariants.{Serial}
+use Rattle.lw_transcript.specs.declared.lines.Form.TheVariants.{Serial}
 use Rattle.lw_events.specs.declared.event.Event.{Event}
 use Rattle.lw_events.specs.declared.event.Event.TheVariants.{Frame, Stop}
 use Rattle.lw_events.specs.declared.event.Reply.TheVariants.{Done}
 use Rattle.lw_transcript.specs.declared.lines.CoreLine.{CoreLine}
 use Rattle.lw_transcript.specs.declared.lines.Evidence.{Evidence}
 use Rattle.lw_transcript.specs.declared.lines.Evidence.TheVariants.{At}
-use Rattle.lw_transcript.specs.declared.lines.Outcome.TheVariants.{Ok as OkOutcome, Fed}
+use Rattle.call_types.specs.declared.outcome.Outcome.TheVariants.{Ok as OkOutcome, Fed}
 use Rattle.lw_transcript.specs.declared.lines.ActorPart.{ActorPart}
 use Rattle.lw_transcript.specs.declared.lines.Transcript.{Transcript}
 use Rattle.lw_transcript.specs.Transcript.{transcript_spelling}
@@ -49,24 +49,26 @@ request_line = line_of 1 (Frame request) (answer ∷ [])
 abbrev pub arp_request : Transcript
 arp_request = record {
   version = One;
-  kind = Serial;
-  body = record {
+  form = Serial (record {
+    sizes = None;
     core = request_line ∷ stop_line 2 ∷ [];
     actors = driver (At 1 ∷ []) 1 2 ∷ [];
-    end = record { core = 2; out = 1 };
-  };
+    left = [];
+    end = record { core = 2; out = 1; pools = None };
+  });
 }
 
 -- no frame is fed
 abbrev pub no_frames : Transcript
 no_frames = record {
   version = One;
-  kind = Serial;
-  body = record {
+  form = Serial (record {
+    sizes = None;
     core = stop_line 1 ∷ [];
     actors = driver [] 0 1 ∷ [];
-    end = record { core = 1; out = 0 };
-  };
+    left = [];
+    end = record { core = 1; out = 0; pools = None };
+  });
 }
 
 -- its text

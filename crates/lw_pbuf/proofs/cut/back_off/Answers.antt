@@ -11,20 +11,20 @@ loop-left-init c = record { under_way = back_first c.args.seat.now c.args.spans.
 pub loop-left-smaller : goal.loop-left-smaller
 loop-left-smaller c =
     let l = c.loop-left in
-    let is : l.spans.items ≡ c.pop.new.self.items ++ c.in-Some.last ∷ [] = search rules in
-    let s = back_less c.args.seat.now l.seat c.args.spans.now.items l.spans.items c.pop.new.self.items c.in-Some.last c.args.n l.left l.invariant.under_way is c.loop-left-test.true in
+    let is : l.spans.items ≡ c.pop_last.new.spans.items ++ c.in-Some.last ∷ [] = search rules in
+    let s = back_less c.args.seat.now l.seat c.args.spans.now.items l.spans.items c.pop_last.new.spans.items c.in-Some.last c.args.n l.left l.invariant.under_way is c.loop-left-test.true in
     let e = c.cut_last-left.ensures.left in
     omega arith
 
 pub loop-left-preserved : goal.loop-left-preserved
 loop-left-preserved c =
     let l = c.loop-left in
-    let is : l.spans.items ≡ c.pop.new.self.items ++ c.in-Some.last ∷ [] = search rules in
+    let is : l.spans.items ≡ c.pop_last.new.spans.items ++ c.in-Some.last ∷ [] = search rules in
     let e = c.cut_last-left.ensures in
     record {
-      under_way = back_next c.args.seat.now l.seat c.args.spans.now.items l.spans.items c.pop.new.self.items c.in-Some.last c.args.n l.left l.invariant.under_way is
+      under_way = back_next c.args.seat.now l.seat c.args.spans.now.items l.spans.items c.pop_last.new.spans.items c.in-Some.last c.args.n l.left l.invariant.under_way is
           c.cut_last-left.new.seat c.cut_last-left.new.spans.items c.cut_last-left.result e.left (λ more. search rules) e.octets e.left_parts e.chain e.listed e.cut e.full e.fewer;
-      capacity = e.capacity ∙ (c.pop.ensures.capacity ∙ l.invariant.capacity);
+      capacity = e.capacity ∙ (c.pop_last.ensures.capacity ∙ l.invariant.capacity);
     }
 
 pub returns-clause-left_parts : goal.returns-clause-left_parts

@@ -1,12 +1,11 @@
 use Rattle.std.proofs.Common.{◌≡◌}
-use Rattle.std.specs.Prelude.{vec_capacity}
 use Rattle.lw_pbuf.proofs.SpanCuts.{BackCut}
 use Rattle.lw_pbuf.proofs.cut.back_off.Given as goal
 
 abbrev pub invariant-loop-left : goal.invariant-loop-left
 invariant-loop-left l = record {
   under_way : BackCut l.fn.seat l.seat l.fn.spans.items l.spans.items l.n l.left;
-  capacity : vec_capacity l.spans ≡ vec_capacity l.fn.spans;
+  capacity : l.spans.capacity ≡ l.fn.spans.capacity;
 }
 
 abbrev pub decreases-loop-left : goal.decreases-loop-left

@@ -25,8 +25,8 @@ fill-requires-clause-few c = λ pool.
     let few = few_pbufs c.args.kind (length c.as_slice.result.now) (omega arith) in
     omega arith
 
-pub of-requires-then-fill-clause-chain : goal.of-requires-then-fill-clause-chain
-of-requires-then-fill-clause-chain c =
+pub of-requires-then-fill : goal.of-requires-then-fill
+of-requires-then-fill c =
     let body = c.args.body.items in
     let ps = c.fill.new.pbufs.items in
     let text = c.as_slice.ensures.value in
@@ -34,10 +34,12 @@ of-requires-then-fill-clause-chain c =
     let exact = (c.fill.ensures.all c.if-fill.true).0 in
     let long = ap length text in
     let small = c.requires.small in
-    subst (λ (x : List Part). IsChain (arc_value c.args.counts) x) (sym c.of.ensures) record {
-      under = subst (λ (u : TableId). All (λ p. IsUnder u p.owner) (parts_of true body ps)) (sym c.requires.table) taken.under;
-      some = parts_of-some true body ps c.fill.ensures.some (omega arith);
-      short = let e = ap length (joined_all true body ps (omega arith)) in omega arith;
+    record {
+      chain = subst (λ (x : List Part). IsChain (arc_value c.args.counts) x) (sym c.of.ensures) record {
+        under = subst (λ (u : TableId). All (λ p. IsUnder u p.owner) (parts_of true body ps)) (sym c.requires.table) taken.under;
+        some = parts_of-some true body ps c.fill.ensures.some (omega arith);
+        short = let e = ap length (joined_all true body ps (omega arith)) in omega arith;
+      };
     }
 
 pub returns-then-fill-clause-made : goal.returns-then-fill-clause-made

@@ -1,5 +1,4 @@
 use Rattle.std.proofs.Common.{◌≡◌}
-use Rattle.std.specs.Prelude.{vec_capacity}
 use Rattle.lw_pbuf.proofs.Sharing.{Spanned}
 use Rattle.lw_pbuf.proofs.share.share_spans.Given as goal
 
@@ -7,5 +6,5 @@ abbrev pub invariant-loop-twin : goal.invariant-loop-twin
 invariant-loop-twin l = record {
   spanned : Spanned l.hands l.fn.spans l.spans l.others.items l.twin-iterator.rest.items l.i;
   same : l.seat ≡ l.fn.seat;
-  capacity : vec_capacity l.others ≡ vec_capacity l.fn.others;
+  capacity : l.others.capacity ≡ l.fn.others.capacity;
 }

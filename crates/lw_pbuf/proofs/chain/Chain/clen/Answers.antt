@@ -9,9 +9,9 @@ pub overflow_add-count : goal.overflow_add-count
 overflow_add-count c =
     let l = c.loop-span in
     let i = l.invariant in
-    let inside : l.span-index < length c.deref-span-items.result.now = omega arith in
-    let h = count-here c.deref-span-items.result.now l.span-index c.span-item.result inside c.span-item.is in
-    let n = c.clen-count-in-loop-span.ensures in
+    let inside : l.span-index < length c.as_slice-span-items.result.now = omega arith in
+    let h = count-here c.as_slice-span-items.result.now l.span-index c.span-item.result inside c.span-item.is in
+    let n = c.clen-count.ensures in
     let few = chain-few _ _ c.self.invariant.0 in
     let v = ap (λ (x : ChainSeen). length x.parts) c.self.view_is in
     omega arith

@@ -1,0 +1,4 @@
+pub mod Connections
+pub mod Descriptors
+pub mod Signals
+pub mod Variables

@@ -1,0 +1,10 @@
+pub mod Behind
+pub mod CallLaws
+pub mod CallOnce
+pub mod HexLaws
+pub mod ItemLaws
+pub mod NumberLaws
+pub mod Pieces
+pub mod Solid
+pub mod Spellings
+pub mod WriteLaws

@@ -1,0 +1,6 @@
+pub mod Calls
+pub mod Groups
+pub mod Spelling
+pub mod Values
+pub mod Words
+pub mod Writing
