@@ -46,9 +46,9 @@ posts_none s Unserved short places = refl
 
 -- an entry for which no pool was short tells that all was granted
 tells_granted : (s : State) (actor : ℕ) (event : Event (List ℕ)) (entry : Entry) → entry ≡ entry_of s actor event (grants_of entry) → entry.short ≡ false → grants_of entry ≡ granted
-tells_granted s actor event entry is served =
+tells_granted s actor event entry is whole =
     let none : entry.posts ≡ [] = ap (λ (e : Entry). e.posts) is ∙ posts_none s (served event) entry.short (map had_place entry.posts) in
-    ap (λ (short : Bool). let g : Grants = record { short = short; places = map had_place entry.posts } in g) served
+    ap (λ (short : Bool). let g : Grants = record { short = short; places = map had_place entry.posts } in g) whole
     ∙ ap (λ (posts : List Post). let g : Grants = record { short = false; places = map had_place posts } in g) none
 
 -- what is not true is false
@@ -62,8 +62,8 @@ pub step_made : {H : Type 0} (home_seen : H → HomeView) (may_refuse : H → H 
     → (entry.short ≡ true → RamIsShort may_refuse home (home_seen home)) → IsStep c.state actor event entry reply d.state
     → d.left ≡ c.left → d.entries ≡ c.entries ++ entry ∷ [] → d ≡ made c actor (event ∷ [])
 step_made home_seen may_refuse home c d actor event entry reply never short is left entries =
-    let served : entry.short ≡ false = not_short entry.short (λ b. let r = short b in never.full home r.after Ram r.octets r.refused) in
-    let grants = tells_granted c.state actor event entry is.made served in
+    let whole : entry.short ≡ false = not_short entry.short (λ b. let r = short b in never.full home r.after Ram r.octets r.refused) in
+    let grants = tells_granted c.state actor event entry is.made whole in
     let state : d.state ≡ (step c.state event granted).state = is.moved ∙ ap (λ (g : Grants). (step c.state event g).state) grants in
     let made_entry : entry ≡ entry_of c.state actor event granted = is.made ∙ ap (λ (g : Grants). entry_of c.state actor event g) grants in
     let config = λ (s : State) (fs : List (List ℕ)) (es : List Entry). let x : Configuration = record { state = s; left = fs; entries = es } in x in
