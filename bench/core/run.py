@@ -17,6 +17,7 @@ TOP = pathlib.Path(__file__).resolve().parents[2]
 sys.path.insert(0, str(TOP / "bench"))
 sys.dont_write_bytecode = True
 from frames import PEER_IP, PEER_MAC, arp_request, arp_requests, echo_requests, write_capture
+from yardstick import real
 
 TURNS = 7
 # so many frames are fed in one run
@@ -40,16 +41,6 @@ def ours(program, payloads, capture):
     return nanos / FED
 
 
-def real(capture):
-    """The nanoseconds that real lwIP takes a frame, or None where no program for it is named."""
-    program = os.environ.get("LWIP_BENCH")
-    if not program:
-        return None
-    done = subprocess.run([program, "-K", "-n", "5", capture], capture_output=True, text=True, check=False)
-    words = done.stdout.split()
-    return float(words[words.index("ns_min") + 1]) if "ns_min" in words else None
-
-
 def best(found):
     """The least of what was found, or None."""
     found = [one for one in found if one is not None]
@@ -68,7 +59,7 @@ def main():
         capture = pathlib.Path(room) / "capture"
         for name, frames in KINDS:
             write_capture(capture, frames())
-            runs = [(ours(program, "octets", capture), ours(program, "chains", capture), real(capture)) for _ in range(TURNS)]
+            runs = [(ours(program, "octets", capture), ours(program, "chains", capture), real(capture, "-K", "-n", "5")) for _ in range(TURNS)]
             octets, chains, yardstick = (best(column) for column in zip(*runs))
             beside = f"{yardstick:>8.1f} {octets / yardstick:>12.2f} {chains / yardstick:>12.2f}" if yardstick else f"{'-':>8} {'-':>12} {'-':>12}"
             print(f"{name:<30} {octets:>8.1f} {chains:>8.1f} {beside}", flush=True)

@@ -23,6 +23,7 @@ TOP = pathlib.Path(__file__).resolve().parents[2]
 sys.path.insert(0, str(TOP / "bench"))
 sys.dont_write_bytecode = True
 from frames import MORE, PEER_IP, PEER_MAC, arp_request, arp_requests, echo_message, echo_requests, packet, write_capture
+from yardstick import real
 
 TURNS = 3
 SCRIPT = b"lwip 1\nnet 10.0.0.1 255.0.0.0 10.255.255.254 020000000001\nlimits default\n"
@@ -110,16 +111,6 @@ def check(path, count, out):
         sys.exit(f"the transcript of {count} frames ends with: {last}")
 
 
-def real(folder):
-    """The nanoseconds that real lwIP takes a frame of the same capture, or None where no program for it is named."""
-    program = os.environ.get("LWIP_BENCH")
-    if not program:
-        return None
-    done = subprocess.run([program, "capture"], cwd=folder, capture_output=True, text=True, check=False)
-    words = done.stdout.split()
-    return float(words[words.index("ns_min") + 1]) if "ns_min" in words else None
-
-
 def main():
     program = pathlib.Path(sys.argv[1] if len(sys.argv) > 1 else TOP / "crates/lwip/out/lwip").resolve()
     if not os.access(program, os.X_OK):
@@ -147,7 +138,7 @@ def measure(program, folder, name, frames, counts, brought):
         octets = (folder / "capture").stat().st_size + (folder / "transcript").stat().st_size
         ratio = f"{seconds / before:.2f}" if before else "-"
         each = seconds / count * 1e9
-        yardstick = real(folder)
+        yardstick = real(folder / "capture")
         beside = f"{yardstick:>9.1f} {each / yardstick:>7.1f}" if yardstick else f"{'-':>9} {'-':>7}"
         print(f"{count:>8} {seconds:>9.3f} {each:>9.0f} {ratio:>9} {peak:>12} {peak / octets:>12.2f} {beside}", flush=True)
         before = seconds
