@@ -25,9 +25,10 @@ no_items capacity = record { items = []; taken = 0; flags = 0; rest = false; cap
 abbrev pub posted_in : {P : Type 0} → Untaken P → ℕ
 posted_in b = b.taken + length b.items
 
--- after so many posts one more has a place: there is room for it untaken, and a ticket below 2^28 - 1
-abbrev pub has_place : {P : Type 0} → Untaken P → ℕ → Bool
-has_place b ahead = nat_lt (length b.items + ahead) b.capacity && nat_lt (posted_in b + ahead) (2 ^ 28 - 1)
+-- with room for so many untaken items, after so many posts one more has a place: there is room for it untaken, and a ticket
+-- below 2^28 - 1
+abbrev pub has_place : {P : Type 0} → ℕ → Untaken P → ℕ → Bool
+has_place capacity b ahead = nat_lt (length b.items + ahead) capacity && nat_lt (posted_in b + ahead) (2 ^ 28 - 1)
 
 -- one item more
 abbrev pub pushed : {P : Type 0} → Untaken P → Item P → Untaken P

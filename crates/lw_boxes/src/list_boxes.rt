@@ -19,11 +19,14 @@ pub struct ListBoxes<P> {
 }
 
 impl<P> Model for ListBoxes<P> {
+    ghost use Rattle.std.specs.Prelude.{◌≡◌, All};
     ghost use Rattle.lw_boxes.specs.Lists.{AllBoxes};
 
     ghost Value = { AllBoxes P };
 
     ghost view = { λ b. record { boxes = b.boxes.items; capacity = b.capacity; refusals = b.refusals } };
+
+    ghost invariant = { λ b. All (λ one. one.capacity ≡ b.capacity) b.boxes.items };
 }
 
 impl<P> ListBoxes<P> {
@@ -68,9 +71,11 @@ impl<P> ListBoxes<P> {
 impl<P> Boxes<P> for ListBoxes<P> {
     ghost seen = { shelf_of };
 
-    ghost offers = { λ before conn ahead answer after. answer ≡ option_map_or (λ b. has_place b ahead) (box_of before conn) false };
+    ghost offers = { λ before conn ahead answer after. answer ≡ option_map_or (λ b. has_place before.capacity b ahead) (box_of before conn) false };
 
     ghost fits = { λ _ _. Unit {0} };
+
+    ghost capacity = { λ boxes. boxes.capacity };
 
     fn make(&mut self, conn: u32) -> Result<(), NoMemory> {
         if (conn as usize) > self.boxes.len() {
@@ -94,6 +99,7 @@ impl<P> Boxes<P> for ListBoxes<P> {
         requires found { (shelf_of self.old).found conn ((shelf_of self.old).box conn).posted ≡ true }
         ensures ticket { result ≡ ((shelf_of self.old).box conn).posted }
         ensures posted { IsPosted (shelf_of self.old) conn item (shelf_of self.new) }
+        ensures capacity { self.new.capacity ≡ self.old.capacity }
     {
         self.boxes[conn as usize - 1].post(item)
     }

@@ -54,7 +54,7 @@ impl<P> OneBox<P> {
 
     /// Whether, after `ahead` more posts, one more has a place.
     pub fn has_place(&self, ahead: u32) -> bool
-        ensures { result ≡ has_place self.now ahead }
+        ensures { result ≡ has_place self.now.capacity self.now ahead }
     {
         let ahead = u64::from(ahead);
         self.untaken.len() as u64 + ahead < self.untaken.capacity() as u64
@@ -63,7 +63,7 @@ impl<P> OneBox<P> {
 
     /// Posts an item, and gives its ticket.
     pub fn post(&mut self, item: Item<P>) -> u32
-        requires place { has_place self.old 0 ≡ true }
+        requires place { has_place self.old.capacity self.old 0 ≡ true }
         ensures ticket { result ≡ posted_in self.old }
         ensures pushed { self.new ≡ pushed self.old item }
     {
