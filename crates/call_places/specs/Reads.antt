@@ -35,16 +35,19 @@ use Rattle.call_places.specs.declared.place.Step.{Step}
 use Rattle.call_places.specs.Steps.{to, ends, fails}
 use Rattle.call_places.specs.Waits.{waiting, vain, read_end}
 
--- the one line of what was seen
+-- a look at an event word, as the one line of it
 abbrev pub saw : ℕ → Word → List Seen
 saw conn word = Sight (Saw conn word) ∷ []
 
+-- octets that were taken, as the one line of it
 abbrev pub took : ℕ → ℕ → ℕ → List ℕ → List Seen
 took conn ticket from octets = Sight (TakeSight conn ticket from octets) ∷ []
 
+-- a datagram that was taken, as the one line of it
 abbrev pub got_datagram : ℕ → ℕ → Ip → Port → List ℕ → List Seen
 got_datagram conn ticket ip port octets = Sight (DatagramSight conn ticket ip port octets) ∷ []
 
+-- an accepted connection that was taken, as the one line of it
 abbrev pub accepted : ℕ → ℕ → ℕ → List Seen
 accepted conn ticket fresh = Sight (AcceptedSight conn ticket fresh) ∷ []
 
@@ -59,6 +62,7 @@ abbrev pub counted : Bool → Awaiting → Timing → ℕ → Step
 counted true awaiting timing n = ends OkOutcome (Sight (CountSight awaiting.signal n) ∷ [])
 counted false awaiting timing n = vain (Signal awaiting) timing (Sight (CountSight awaiting.signal n) ∷ [])
 
+-- what a wait for a signal does with how often it came
 abbrev pub after_count : Awaiting → Timing → ℕ → Step
 after_count awaiting timing n = counted (nat_le awaiting.count n) awaiting timing n
 
@@ -71,6 +75,7 @@ connect_looks false true is_open conn timing word = asks_fault conn 0 word
 connect_looks false false true conn timing word = ends OkOutcome (saw conn word)
 connect_looks false false false conn timing word = vain (Connected conn) timing (saw conn word)
 
+-- what a connect does with the event word
 abbrev pub after_connect_look : ℕ → Timing → Word → Step
 after_connect_look conn timing word =
     connect_looks (is_set Closed word.flags) (is_set Fault word.flags) (is_set Writable word.flags) conn timing word
@@ -114,6 +119,7 @@ wants_more All got count = nat_lt got count
 wants_more From got count = false
 wants_more Item got count = false
 
+-- a receive has so many octets: it goes on, or ends
 abbrev pub read_so_far : Bool → Reading → Timing → ℕ → List Seen → Step
 read_so_far true reading timing got lines =
     to (waiting (Read (record { conn = reading.conn; kind = reading.kind; count = reading.count; got = got }))
@@ -141,6 +147,7 @@ abbrev pub read_octets : Bool → Reading → Timing → ℕ → List Seen → S
 read_octets true reading timing n lines = ends (ReadOutcome reading.got) lines
 read_octets false reading timing n lines = read_more reading timing n lines
 
+-- recvfrom tells the sender, the other receives the octets alone
 abbrev pub read_datagram : ReadKind → Reading → Timing → Ip → Port → ℕ → List Seen → Step
 read_datagram Once reading timing ip port n lines = read_octets (n == 0) reading timing n lines
 read_datagram All reading timing ip port n lines = read_octets (n == 0) reading timing n lines
@@ -155,6 +162,7 @@ none_read false true ended reading timing word = asks_fault reading.conn reading
 none_read false false true reading timing word = ends (ReadOutcome reading.got) (saw reading.conn word)
 none_read false false false reading timing word = vain (Read reading) timing (saw reading.conn word)
 
+-- a word of a connection that gives nothing any more: closed, listening, or never connected
 abbrev pub is_unreadable : Word → Bool
 is_unreadable word = is_set Closed word.flags || is_set Listen word.flags || is_set Idle word.flags
 

@@ -42,6 +42,7 @@ holds Except word = is_set Fault word.flags
 abbrev pub limited : ℕ → Timing
 limited limit = if limit == 0 then timed None (Some AtOnce) else timed (Some limit) None
 
+-- how long a select waits
 abbrev pub select_timing : Option ℕ → Timing
 select_timing (Some limit) = limited limit
 select_timing None = timed None None
@@ -59,9 +60,11 @@ abbrev pub looks_up : Selecting → Option SelectItem → Place
 looks_up selecting (Some item) = Var item.var (OfFd (Select selecting item))
 looks_up selecting None = scans selecting.limit selecting.targets
 
+-- the item that is looked up next
 abbrev pub next_item : Selecting → Option SelectItem
 next_item selecting = slice_get selecting.items (length selecting.targets)
 
+-- where a select stands that has looked up so many items
 abbrev pub selects : Selecting → Place
 selects selecting = looks_up selecting (next_item selecting)
 
@@ -74,6 +77,7 @@ with_target selecting item conn =
 abbrev pub next_target : Scan → Option ScanTarget
 next_target scan = slice_get scan.targets (length scan.shown)
 
+-- what a scan asks: the event word of its next target
 abbrev pub see_target : Option ScanTarget → Ask
 see_target (Some target) = See target.conn
 see_target None = NoAsk
@@ -96,16 +100,20 @@ abbrev pub scan_over : Bool → Scan → Timing → Step
 scan_over true scan timing = vain (ScanWant (unscanned scan.targets)) timing scan.shown
 scan_over false scan timing = ends (Ready scan.ready) scan.shown
 
+-- a scan goes on where targets are left
 abbrev pub scan_by : Bool → Scan → Timing → Step
 scan_by true scan timing = scan_over (length scan.ready == 0) scan timing
 scan_by false scan timing = to (waiting (ScanWant scan) timing) []
 
+-- a scan after a look: over, or not
 abbrev pub scan_on : Scan → Timing → Step
 scan_on scan timing = scan_by (nat_le (length scan.targets) (length scan.shown)) scan timing
 
+-- the look at a target is kept
 abbrev pub scan_target : Option ScanTarget → Scan → Timing → Word → Step
 scan_target (Some target) scan timing word = scan_on (scanned scan target word) timing
 scan_target None scan timing word = stray
 
+-- what a select does with the event word of its next target
 abbrev pub after_scan : Scan → Timing → Word → Step
 after_scan scan timing word = scan_target (next_target scan) scan timing word

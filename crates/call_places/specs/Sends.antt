@@ -44,6 +44,7 @@ abbrev pub wrote_by : Bool → Sending → Option Due → List Seen → ℕ → 
 wrote_by true sending due lines n = ends (Sent (sending.sent + n)) lines
 wrote_by false sending due lines n = next_write due (after_octets sending n) lines
 
+-- so many octets were accepted, of those that were left
 abbrev pub wrote_some : Sending → Option Due → List Seen → ℕ → Step
 wrote_some sending due lines n = wrote_by (nat_le (length sending.rest) n) sending due lines n
 
@@ -64,6 +65,7 @@ abbrev pub write_failed : Bool → Err → Sending → Option Due → List Seen 
 write_failed true code sending due lines = would_block due sending lines
 write_failed false code sending due lines = ends (sent_or sending.sent (Fail code)) lines
 
+-- the refusal that says that nothing fits
 abbrev pub is_would_block : Err → Bool
 is_would_block WouldBlock = true
 is_would_block code = false
@@ -84,6 +86,7 @@ wrote_with sending due lines (TicksReply n) = ends_with sending.sent (TicksReply
 wrote_with sending due lines (AddrReply ip port) = ends_with sending.sent (AddrReply ip port) lines
 wrote_with sending due lines (Frames n) = ends_with sending.sent (Frames n) lines
 
+-- what a send does with the reply to its write
 abbrev pub after_write : Sending → Option Due → List Seen → Reply → Step
 after_write sending due held reply = wrote_with sending due (with_core held) reply
 
@@ -91,9 +94,11 @@ after_write sending due held reply = wrote_with sending due (with_core held) rep
 abbrev pub may_write : Word → Bool
 may_write word = is_set Writable word.flags || is_set Fault word.flags || is_set Closed word.flags
 
+-- a send writes where it may, else it waits on
 abbrev pub room_by : Bool → Sending → Timing → Step
 room_by true sending timing = to (Write sending None []) []
 room_by false sending timing = goes_on (Room sending) timing
 
+-- what a send that waits for room does with the event word
 abbrev pub after_room : Sending → Timing → Word → Step
 after_room sending timing word = room_by (may_write word) sending timing

@@ -94,6 +94,7 @@ is_no_actor Actor = false
 is_no_actor Driver = true
 is_no_actor (Wire side) = true
 
+-- only a wait for a signal is made by the driver or a wire
 abbrev pub skips_looks : Want → Bool
 skips_looks (Signal awaiting) = is_no_actor awaiting.caller
 skips_looks (Accept accepting) = false
@@ -120,6 +121,7 @@ abbrev pub vain_by : Option Due → Want → Timing → List Seen → Step
 vain_by (Some due) want timing lines = ends (last_of want due) (due_lines (is_scan want) timing.begun due ++ lines)
 vain_by None want timing lines = goes_on want timing
 
+-- what a wait does where its try found nothing
 abbrev pub vain : Want → Timing → List Seen → Step
 vain want timing lines = vain_by timing.due want timing lines
 
@@ -130,6 +132,7 @@ abbrev pub begin_lines : Bool → ℕ → List Seen
 begin_lines true begun = []
 begin_lines false begun = Sight (TicksSight begun) ∷ []
 
+-- what a wait does with the ticks at its begin
 abbrev pub after_begin : Want → Timing → ℕ → Step
 after_begin want timing now =
     to (Waits Stop want (record { limit = timing.limit; begun = Some now; due = timing.due })) (begin_lines (is_scan want) now)
@@ -152,6 +155,7 @@ abbrev pub past_stop : Option ℕ → Stage
 past_stop (Some limit) = Now
 past_stop None = Pause
 
+-- what a wait does with the stop word
 abbrev pub after_stop : Want → Timing → Bool → Step
 after_stop want timing true = to (last_try want (made_due timing (Some Stopped))) []
 after_stop want timing false = to (Waits (past_stop timing.limit) want timing) []
@@ -162,10 +166,12 @@ has_passed (Some limit) (Some begun) now = nat_le (begun + limit) now
 has_passed (Some limit) None now = false
 has_passed None begun now = false
 
+-- a last try where the limit is over, else a turn of the others
 abbrev pub now_place : Bool → Want → Timing → ℕ → Place
 now_place true want timing now = Waits Try want (made_due timing (Some (Time now)))
 now_place false want timing now = Waits Pause want timing
 
+-- what a wait does with the ticks behind its begin
 abbrev pub after_now : Want → Timing → ℕ → Step
 after_now want timing now = to (now_place (has_passed timing.limit timing.begun now) want timing now) []
 
@@ -175,6 +181,7 @@ is_driver Actor = false
 is_driver Driver = true
 is_driver (Wire side) = false
 
+-- only a wait of the driver for a signal can be given up
 abbrev pub can_give_up : Want → Bool
 can_give_up (Signal awaiting) = is_driver awaiting.caller
 can_give_up (Accept accepting) = false
@@ -183,10 +190,12 @@ can_give_up (Connected conn) = false
 can_give_up (Room sending) = false
 can_give_up (ScanWant scan) = false
 
+-- a wait that is given up is due; one that can't be is as before
 abbrev pub given_up : Bool → Option Due → Option Due
 given_up true due = Some GivenUp
 given_up false due = due
 
+-- what a wait does at its next turn
 abbrev pub after_pause : Want → Timing → Turn → Step
 after_pause want timing GoOn = to (Waits Try want timing) []
 after_pause want timing GiveUp = to (Waits Try want (made_due timing (given_up (can_give_up want) timing.due))) []

@@ -46,6 +46,7 @@ opening limits = record { udp = empty; conns = []; fds = all_free limits.descrip
 abbrev pub Answer : Type 0
 Answer = Reply × Table
 
+-- a refusal with its cause
 abbrev pub refused : Table → Code → Answer
 refused e code = (Fail code, e)
 
@@ -58,6 +59,7 @@ abbrev pub made : Table → Option ℕ → Answer
 made e None = refused e Mem
 made e (Some conn) = (Conn conn, record e { udp = udp_added e.udp conn; conns = conns_added e.conns Udp })
 
+-- New: MEM where as many are live as the limits allow, or no number is left
 abbrev pub new_udp : Limits → Table → Answer
 new_udp limits e = made e (next_number limits.live e.conns)
 
@@ -66,6 +68,7 @@ abbrev pub by_udp : Table → Result UdpTable Code → Answer
 by_udp e (Ok t) = (Done, record e { udp = t })
 by_udp e (Err code) = refused e code
 
+-- the reply that such an answer is
 abbrev pub reply_of : Result (Unit {0}) Code → Reply
 reply_of (Ok done) = Done
 reply_of (Err code) = Fail code
@@ -98,6 +101,7 @@ abbrev pub fault_reply : Option Code → Reply
 fault_reply None = Done
 fault_reply (Some fault) = Fail fault
 
+-- GetError: CONN, then the fault or none
 abbrev pub geterror : Table → ℕ → Reply
 geterror e conn = option_map_or (λ (c : Connection). fault_reply c.fault) (connection e.conns conn) (Fail NoConn)
 
@@ -105,10 +109,12 @@ geterror e conn = option_map_or (λ (c : Connection). fault_reply c.fault) (conn
 abbrev pub addr_reply : Socket → Reply
 addr_reply at = Addr at.0 at.1
 
+-- the address of either side of a live connection
 abbrev pub addr_of : Table → ℕ → Which → Reply
 addr_of e conn Local = option_map_or addr_reply (local_of e.udp.ends conn) (Addr (record { 0 = 0 }) (record { 0 = 0 }))
 addr_of e conn Remote = option_map_or addr_reply (remote_of e.udp.ends conn) (Fail NoConn)
 
+-- GetAddr: CONN, then the address
 abbrev pub getaddr : Table → ℕ → Which → Reply
 getaddr e conn which = if is_some (connection e.conns conn) then addr_of e conn which else Fail NoConn
 
@@ -117,10 +123,12 @@ abbrev pub is_udp : Proto → Bool
 is_udp Udp = true
 is_udp Tcp = false
 
+-- a descriptor for a connection, where one is free
 abbrev pub opened_at : Table → ℕ → Connection → Option ℕ → Answer
 opened_at e conn c None = refused e Mem
 opened_at e conn c (Some fd) = (Fd fd, record e { fds = opened e.fds fd conn (is_udp c.proto) })
 
+-- OpenFd: CONN, then MEM where no descriptor is free
 abbrev pub openfd : Table → ℕ → Answer
 openfd e conn = on_live e conn (λ c. opened_at e conn c (lowest_free e.fds))
 
@@ -128,6 +136,7 @@ openfd e conn = on_live e conn (λ c. opened_at e conn c (lowest_free e.fds))
 abbrev pub setfd : Table → ℕ → FdOption → Answer
 setfd e fd option = option_map_or (λ d. (Done, record e { fds = fd_set e.fds fd option })) (descriptor e.fds fd) (refused e NoConn)
 
+-- CloseFd: the connection that the descriptor was of
 abbrev pub closefd : Table → ℕ → Answer
 closefd e fd = option_map_or (λ d. (Conn d.conn, record e { fds = fd_closed e.fds fd })) (descriptor e.fds fd) (refused e NoConn)
 

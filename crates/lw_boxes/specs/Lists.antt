@@ -46,13 +46,15 @@ fetched b = record b { items = drop 1 b.items; taken = b.taken + min 1 (length b
 abbrev pub word_of : {P : Type 0} → Untaken P → Word
 word_of b = record { posted = posted_in b; claimed = b.taken; flags = (if b.rest then bit_or b.flags (bit_of Rest) else b.flags) }
 
--- a flag set, cleared, and REST set or cleared
+-- a flag set
 abbrev pub flagged : {P : Type 0} → Untaken P → Flag → Untaken P
 flagged b flag = record b { flags = bit_or b.flags (bit_of flag) }
 
+-- a flag cleared
 abbrev pub cleared : {P : Type 0} → Untaken P → Flag → Untaken P
 cleared b flag = record b { flags = bit_and b.flags (255 - bit_of flag) }
 
+-- REST set or cleared
 abbrev pub rested : {P : Type 0} → Untaken P → Bool → Untaken P
 rested b on = record b { rest = on }
 
@@ -75,7 +77,7 @@ box_of a conn = if conn == 0 then None else slice_get a.boxes (conn - 1)
 abbrev pub with_box : {P : Type 0} → AllBoxes P → ℕ → (Untaken P → Untaken P) → AllBoxes P
 with_box a conn f = record a { boxes = option_map_or (λ b. slice_set a.boxes (conn - 1) (f b)) (box_of a conn) a.boxes }
 
--- what the core sees of a mailbox, and of all
+-- what the core sees of a mailbox
 abbrev pub mailbox_of : {P : Type 0} → Untaken P → Mailbox P
 mailbox_of b = record { posted = posted_in b; kept = b.items; flags = b.flags }
 
@@ -83,6 +85,7 @@ mailbox_of b = record { posted = posted_in b; kept = b.items; flags = b.flags }
 abbrev pub has_found : {P : Type 0} → ℕ → Untaken P → Bool
 has_found ticket b = nat_lt ticket (b.taken + b.capacity) && nat_lt ticket (2 ^ 28 - 1)
 
+-- what the core sees of all mailboxes
 abbrev pub shelf_of : {P : Type 0} → AllBoxes P → Shelf P
 shelf_of a = record {
   made = length a.boxes;

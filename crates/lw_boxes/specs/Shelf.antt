@@ -58,12 +58,13 @@ pub record IsPosted {P : Type 0} (before : Shelf P) (conn : ℕ) (item : Item P)
   pub others : IsSameBut conn before after
   pub posted : after.box conn ≡ record (before.box conn) { posted = (before.box conn).posted + 1; kept = (before.box conn).kept ++ item ∷ [] }
 
--- a flag was set, or cleared
+-- a flag was set
 pub record HasFlag {P : Type 0} (before : Shelf P) (conn : ℕ) (flag : Flag) (after : Shelf P) : Type 0 where
   pub made : after.made ≡ before.made
   pub others : IsSameBut conn before after
   pub set : after.box conn ≡ record (before.box conn) { flags = bit_or (before.box conn).flags (bit_of flag) }
 
+-- a flag was cleared
 pub record HasNoFlag {P : Type 0} (before : Shelf P) (conn : ℕ) (flag : Flag) (after : Shelf P) : Type 0 where
   pub made : after.made ≡ before.made
   pub others : IsSameBut conn before after

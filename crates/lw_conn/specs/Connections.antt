@@ -45,15 +45,18 @@ closed cs conn = slice_set cs (conn - 1) None
 abbrev pub changed : Connections → ℕ → (Connection → Connection) → Connections
 changed cs conn f = slice_set cs (conn - 1) (option_map f (connection cs conn))
 
--- a connection with a flag, without one, with a fault, and with one item more that was posted
+-- a connection with a flag
 abbrev pub with_flag : Flag → Connection → Connection
 with_flag flag c = record c { flags = bit_or c.flags (bit_of flag) }
 
+-- a connection without a flag
 abbrev pub without_flag : Flag → Connection → Connection
 without_flag flag c = record c { flags = bit_and c.flags (255 - bit_of flag) }
 
+-- a connection with a fault
 abbrev pub with_fault : Err → Connection → Connection
 with_fault fault c = record c { fault = Some fault }
 
+-- a connection to which one item more was posted
 abbrev pub with_post : Connection → Connection
 with_post c = record c { posted = c.posted + 1 }

@@ -30,6 +30,7 @@ abbrev pub with_option : FdOption → Descriptor → Descriptor
 with_option (NonBlock on) d = record d { nonblock = on }
 with_option (Timeout ticks) d = record d { timeout = ticks }
 
+-- the descriptors, one of which was told an option
 abbrev pub set : Descriptors → ℕ → FdOption → Descriptors
 set ds fd option = slice_set ds fd (option_map (with_option option) (descriptor ds fd))
 

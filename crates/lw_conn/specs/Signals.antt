@@ -5,6 +5,7 @@ use Rattle.std.specs.Prelude.{ℕ, ◌+◌, ◌-◌, ◌^◌, List, min, replica
 abbrev pub no_signals : List ℕ
 no_signals = replicate 16 0
 
+-- how often a signal came
 abbrev pub count : List ℕ → ℕ → ℕ
 count s signal = slice_index s signal
 

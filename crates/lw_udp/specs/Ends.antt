@@ -30,10 +30,11 @@ is_of conn e = e.conn == conn
 abbrev pub end_of : List UdpEnd → ℕ → Option UdpEnd
 end_of ends conn = find (is_of conn) ends
 
--- what a connection is bound to, and connected to
+-- what a connection is bound to
 abbrev pub local_of : List UdpEnd → ℕ → Option Socket
 local_of ends conn = option_and_then (λ e. e.local) (end_of ends conn)
 
+-- the peer that a connection is connected to
 abbrev pub remote_of : List UdpEnd → ℕ → Option Socket
 remote_of ends conn = option_and_then (λ e. e.remote) (end_of ends conn)
 
@@ -41,10 +42,11 @@ remote_of ends conn = option_and_then (λ e. e.remote) (end_of ends conn)
 abbrev pub unbound : ℕ → UdpEnd
 unbound conn = record { conn = conn; local = None; remote = None }
 
--- an end that is bound, or connected, to this
+-- an end that is bound to this
 abbrev pub with_local : Socket → UdpEnd → UdpEnd
 with_local to e = record e { local = Some to }
 
+-- an end that is connected to this peer
 abbrev pub with_remote : Socket → UdpEnd → UdpEnd
 with_remote to e = record e { remote = Some to }
 
@@ -52,9 +54,10 @@ with_remote to e = record e { remote = Some to }
 abbrev pub changed : List UdpEnd → ℕ → (UdpEnd → UdpEnd) → List UdpEnd
 changed ends conn f = map (λ e. if is_of conn e then f e else e) ends
 
--- a table with one end more, and without the end of a connection
+-- a table with one end more
 abbrev pub added : Table → ℕ → Table
 added t conn = record t { ends = t.ends ++ unbound conn ∷ [] }
 
+-- a table without the end of a connection
 abbrev pub removed : Table → ℕ → Table
 removed t conn = record t { ends = filter (λ e. not (is_of conn e)) t.ends }

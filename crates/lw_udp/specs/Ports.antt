@@ -95,11 +95,12 @@ with_peer conn to t = record t { ends = changed t.ends conn (with_remote to) }
 abbrev pub connect : Table → ℕ → Socket → Result Table Code
 connect t conn to = result_map (with_peer conn to) (bound t conn)
 
--- what a call answers, and the table after it: as before where it refused
+-- what a call answers
 abbrev pub answer_of : Result Table Code → Result (Unit {0}) Code
 answer_of (Ok t) = Ok tt
 answer_of (Err fault) = Err fault
 
+-- the table after a call: as before where it refused
 abbrev pub table_after : Table → Result Table Code → Table
 table_after old (Ok t) = t
 table_after old (Err fault) = old
