@@ -51,6 +51,7 @@ abbrev pub drop_fits : Bool → DropCause → Bool
 drop_fits burst Short = true
 drop_fits burst Full = burst
 
+-- what can become of a frame that is fed
 abbrev pub feeding_fits : Bool → Feeding → Bool
 feeding_fits burst Fed = true
 feeding_fits burst (Dropped k cause) = drop_fits burst cause

@@ -54,6 +54,7 @@ abbrev pub uses : Interface → ℕ → Use → Place
 uses Socket var use_ = VarPlace var (OfFd (OfConn use_))
 uses Netconn var use_ = VarPlace var (OfConnVar use_)
 
+-- a close frees the descriptor of a socket; a netconn has none
 abbrev pub begins_close : Interface → ℕ → Place
 begins_close Socket var = VarPlace var (OfFd CloseFdUse)
 begins_close Netconn var = VarPlace var (OfConnVar CloseUse)
@@ -71,20 +72,24 @@ abbrev pub awaits_on : Bool → Side → ℕ → ℕ → Place
 awaits_on true side signal count = awaits (Wire side) signal count
 awaits_on false side signal count = Done OkOutcome
 
+-- how a side's rounds end: by a signal on the side that it is of, else as the other side says
 abbrev pub end_on : Bool → ℕ → ℕ → RoundsEnd
 end_on true signal count = RoundsSignal signal count
 end_on false signal count = Other
 
+-- `await SIDE`, as each side of a wire makes it; nobody else has it
 abbrev pub awaits_side : Caller → Side → ℕ → ℕ → Place
 awaits_side Actor at signal count = Done (Fail Val)
 awaits_side Driver at signal count = Done (Fail Val)
 awaits_side (Wire side) at signal count = awaits_on (is_same side at) side signal count
 
+-- `pump N`: so many rounds
 abbrev pub pumps : Caller → ℕ → Place
 pumps Actor n = Done (Fail Val)
 pumps Driver n = Done (Fail Val)
 pumps (Wire side) n = rounds_on side (After n)
 
+-- `until SIDE S K`: rounds until a signal came so often on a side
 abbrev pub pumps_until : Caller → Side → ℕ → ℕ → Place
 pumps_until Actor at signal count = Done (Fail Val)
 pumps_until Driver at signal count = Done (Fail Val)
@@ -130,6 +135,7 @@ portion_of All count got = OctetsPortion (count - got)
 portion_of From count got = OctetsPortion (count - got)
 portion_of Item count got = ItemPortion
 
+-- what a wait's try asks
 abbrev pub tries : Want → Ask
 tries (SignalWant awaiting) = AskSignal awaiting.signal
 tries (AcceptWant accepting) = AskTake accepting.conn AcceptedPortion
@@ -138,6 +144,7 @@ tries (Connected conn) = AskSee conn
 tries (Room sending) = AskSee sending.conn
 tries (Scan scan) = see_target (next_target scan)
 
+-- what a wait asks at each of its stages
 abbrev pub waits_for : Stage → Want → Ask
 waits_for Try want = tries want
 waits_for Begin want = AskTicks
@@ -145,6 +152,7 @@ waits_for StopStage want = AskStop
 waits_for Now want = AskTicks
 waits_for Pause want = AskPause
 
+-- what a call asks where it stands
 abbrev pub asks : Place → Ask
 asks (VarPlace var use_) = AskVar var
 asks (FdPlace var fd use_) = AskFd fd
@@ -164,6 +172,7 @@ is_pause StopStage = false
 is_pause Now = false
 is_pause Pause = true
 
+-- a place at which a call has ended, or lets the others have their turn
 abbrev pub is_resting : Place → Bool
 is_resting (VarPlace var use_) = false
 is_resting (FdPlace var fd use_) = false

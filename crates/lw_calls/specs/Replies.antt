@@ -31,6 +31,7 @@ abbrev pub names_new : Interface → ℕ → ℕ → Place
 names_new Socket var conn = makes (OpenFd conn) (Opened var conn)
 names_new Netconn var conn = makes (SetVar var (ConnHandle conn)) (Gives (ConnOutcome conn))
 
+-- what the reply to New leads to
 abbrev pub after_new : Interface → ℕ → List Seen → Reply → Step
 after_new interface var lines (ConnReply conn) = to (names_new interface var conn) lines
 after_new interface var lines reply = ends (outcome_of reply) lines
@@ -40,6 +41,7 @@ abbrev pub makes_next : Bool → Event (List ℕ) → Then → List Seen → Ste
 makes_next true event after lines = to (Make event after []) lines
 makes_next false event after lines = to (Make event after lines) []
 
+-- one more event, whose line is held where lines are
 abbrev pub follows : Event (List ℕ) → Then → List Seen → Step
 follows event after held = makes_next (length held == 0) event after (with_core held)
 
@@ -48,6 +50,7 @@ abbrev pub is_full : Err → Bool
 is_full Mem = true
 is_full code = false
 
+-- what a failed OpenFd leads to: where no descriptor is free the connection is closed again
 abbrev pub open_failed : Bool → Err → ℕ → List Seen → Step
 open_failed true code conn held = follows (Close conn) (Ends (Fail code)) held
 open_failed false code conn held = fails code (with_core held)
@@ -77,6 +80,7 @@ abbrev pub close_one : Option ℕ → List ℕ → ℕ → Place
 close_one (Some conn) conns at = makes (Close conn) (Each conns (at + 1))
 close_one None conns at = Done OkOutcome
 
+-- these connections are closed, from a place of the list on
 abbrev pub closes : List ℕ → ℕ → Place
 closes conns at = close_one (slice_get conns at) conns at
 
@@ -85,14 +89,17 @@ abbrev pub in_progress : Bool → ℕ → List Seen → Step
 in_progress true conn lines = fails InProgress lines
 in_progress false conn lines = to (waiting (Connected conn) (timed None None)) lines
 
+-- the answer that says that a connect goes on
 abbrev pub is_in_progress : Err → Bool
 is_in_progress InProgress = true
 is_in_progress code = false
 
+-- what a failed Connect leads to
 abbrev pub connect_failed : Bool → Err → ℕ → Bool → List Seen → Step
 connect_failed true code conn nonblock lines = in_progress nonblock conn lines
 connect_failed false code conn nonblock lines = fails code lines
 
+-- what the reply to Connect leads to
 abbrev pub after_connect : ℕ → Bool → List Seen → Reply → Step
 after_connect conn nonblock lines (FailReply code) = connect_failed (is_in_progress code) code conn nonblock lines
 after_connect conn nonblock lines reply = ends (outcome_of reply) lines

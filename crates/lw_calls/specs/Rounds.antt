@@ -51,9 +51,11 @@ comes_by (After n) rounds = counts_on n rounds
 comes_by (Signal signal count) rounds = Round Come rounds
 comes_by Other rounds = Round Come rounds
 
+-- a round begins: first it is seen whether the rounds are at their end
 abbrev pub comes : Rounds → Place
 comes rounds = comes_by rounds.end rounds
 
+-- rounds on a side, from the first
 abbrev pub rounds_on : Side → RoundsEnd → Place
 rounds_on side end = comes (record { side = side; end = end; made = 0 })
 
@@ -61,10 +63,12 @@ rounds_on side end = comes (record { side = side; end = end; made = 0 })
 abbrev pub made_one : Rounds → Rounds
 made_one rounds = record { side = rounds.side; end = rounds.end; made = rounds.made + 1 }
 
+-- a tick, or the next round
 abbrev pub ticks_or : Bool → Rounds → Place
 ticks_or true rounds = Round Tick rounds
 ticks_or false rounds = comes rounds
 
+-- a round is over
 abbrev pub round_over : Rounds → Place
 round_over rounds = ticks_or (has_tick rounds.end (rounds.made + 1)) (made_one rounds)
 
@@ -73,6 +77,7 @@ abbrev pub past_sent : Side → Rounds → Place
 past_sent A rounds = Round Feed rounds
 past_sent B rounds = round_over rounds
 
+-- what follows as the other side's frames came in
 abbrev pub past_feed : Side → Rounds → Place
 past_feed A rounds = round_over rounds
 past_feed B rounds = Round Sent rounds
@@ -83,6 +88,7 @@ come_asks (After n) = AskOver
 come_asks (Signal signal count) = AskSignal signal
 come_asks Other = AskOver
 
+-- what a side asks at each stage of a round
 abbrev pub round_asks : RoundStage → RoundsEnd → Ask
 round_asks Come end = come_asks end
 round_asks Sent end = AskSent
@@ -94,10 +100,12 @@ abbrev pub came_by : Bool → ℕ → ℕ → Rounds → Step
 came_by true signal n rounds = ends OkOutcome (Sight (CountSight signal n) ∷ [])
 came_by false signal n rounds = to (Round (first_half rounds.side) rounds) []
 
+-- the rounds are at their end, or the next one goes on
 abbrev pub after_over : Rounds → Bool → Step
 after_over rounds true = ends OkOutcome []
 after_over rounds false = to (Round (first_half rounds.side) rounds) []
 
+-- what a round's first look leads to
 abbrev pub after_come : RoundsEnd → Rounds → Answer → Step
 after_come (After n) rounds x = on (after_over rounds) (whether_of x)
 after_come (Signal signal count) rounds x = on (λ n. came_by (nat_le count n) signal n rounds) (number_of x)

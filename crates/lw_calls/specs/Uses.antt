@@ -45,10 +45,12 @@ use Rattle.call_places.specs.Selects.{selects, with_target}
 abbrev pub filled : ℕ → ℕ → List ℕ
 filled count first = map (λ i. (first + i) % 256) (range_with_len 0 count)
 
+-- the octets that data stands for
 abbrev pub octets_of : Data → List ℕ
 octets_of (Spelled octets) = octets
 octets_of (Fill count first) = filled count first
 
+-- how many octets data stands for
 abbrev pub count_of : Data → ℕ
 count_of (Spelled octets) = length octets
 count_of (Fill count first) = count
@@ -81,10 +83,12 @@ has_kind Tcp From = false
 has_kind Tcp Item = true
 has_kind Udp kind = true
 
+-- a receive waits for what is posted; a kind that the transport doesn't have is VAL
 abbrev pub reads_by : Bool → Target → ReadKind → ℕ → Timing → Place
 reads_by true target kind count timing = waiting (ReadWant (record { conn = target.conn; kind = kind; count = count; got = 0 })) timing
 reads_by false target kind count timing = Done (Fail Val)
 
+-- a receive on a connection
 abbrev pub reads : Target → ReadKind → ℕ → Timing → Place
 reads target kind count timing = reads_by (has_kind target.proto kind) target kind count timing
 
@@ -110,6 +114,7 @@ does (GetAddr which) target = makes (GetAddrEvent target.conn which) Answer
 abbrev pub netconn_target : ℕ → Proto → Target
 netconn_target conn proto = record { conn = conn; nonblock = false; timeout = 0; proto = proto }
 
+-- a connection as its descriptor's word says
 abbrev pub fd_target : FdWord → Target
 fd_target word = record { conn = word.conn; nonblock = word.nonblock; timeout = word.timeout; proto = word.proto }
 
@@ -122,10 +127,12 @@ abbrev pub conn_handle : Handle → ℕ → Proto → Use → Step
 conn_handle (ConnHandle conn) var proto use_ = to (does use_ (netconn_target conn proto)) (var_line var (Some (ConnHandle conn)))
 conn_handle (FdHandle fd) var proto use_ = fails Val (var_line var (Some (FdHandle fd)))
 
+-- a variable that a socket call looks at names a descriptor
 abbrev pub fd_handle : Handle → ℕ → FdUse → Step
 fd_handle (ConnHandle conn) var use_ = fails Val (var_line var (Some (ConnHandle conn)))
 fd_handle (FdHandle fd) var use_ = to (FdPlace var fd use_) []
 
+-- what a variable's word leads to, by what it is looked at for
 abbrev pub var_handle : VarUse → ℕ → Named → Step
 var_handle (OfConnVar use_) var named = conn_handle named.handle var named.proto use_
 var_handle (OfFd use_) var named = fd_handle named.handle var use_
@@ -147,6 +154,7 @@ abbrev pub fd_lines : ℕ → ℕ → FdWord → List Seen
 fd_lines var fd word =
     Sight (VarSight var (Some (FdHandle fd))) ∷ Sight (FdSight fd word.conn word.nonblock word.timeout) ∷ []
 
+-- a free descriptor ends the call
 abbrev pub fd_place : Bool → ℕ → FdUse → FdWord → Place
 fd_place true fd use_ word = Done (Fail ConnErr)
 fd_place false fd use_ word = fd_does use_ fd word
