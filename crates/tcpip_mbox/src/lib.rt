@@ -8,6 +8,7 @@ mod message;
 mod plays;
 mod put;
 mod rule;
+mod shown;
 mod view;
 
 pub use get::Get;

@@ -12,17 +12,17 @@ use crate::message::Message;
 use crate::plays::{Got, Hire, Keyed, Meet, Part, Picks, Sent, Tell, Told};
 use crate::put::Put;
 use crate::rule::{Place, Queue};
+use crate::shown::Shown;
 use crate::view::Letter;
 use std::alloc::{AllocError, Global};
 use std::marker::{Brand, Model};
-use std::snapshot::Snapshot;
 use std::sync::Wait;
 
 /// A mailbox, which threads share by reference. Contracts see which one it is, how many places it has, and what its messages fit.
 /// It is Drop where its messages are.
 pub struct TcpipMbox<M: Message<K>, K> {
     queue: Queue<M, K>,
-    key: Snapshot<K>,
+    key: Shown<K>,
 }
 
 impl<M: Message<K>, K> Model for TcpipMbox<M, K> {
@@ -104,7 +104,7 @@ impl<M: Message<K>, K> TcpipMbox<M, K> {
         if puts.insert(0, head).is_err() {
             unreachable!()
         }
-        let key = Snapshot::of(key);
+        let key = Shown::of(key);
         Ok((TcpipMbox { queue, key }, puts, Get { pass }))
     }
 
