@@ -1,5 +1,5 @@
 -- Elements of a list by their places, once one is put behind the others or in place of another.
-use Rattle.std.proofs.Common.{◌≡◌, ◌≢◌, ℕ, zero, suc, ◌+◌, ◌-◌, ◌==◌, if◌then◌else◌, true, false, List, [], ◌∷◌, ◌++◌, length, Option, Some, None, is_some, option_and_then, slice_get, slice_set, refl, ap, arith}
+use Rattle.std.proofs.Common.{◌≡◌, ◌≢◌, ℕ, zero, suc, ◌+◌, ◌-◌, ◌==◌, if◌then◌else◌, Bool, true, false, List, [], ◌∷◌, ◌++◌, length, Option, Some, None, is_some, option_and_then, slice_get, slice_set, refl, ap, arith}
 use Rattle.std.proofs.lemmas.Bool.{eqb-false, eqb-true}
 use Rattle.std.proofs.lemmas.Option.{slice_get_past}
 
@@ -93,3 +93,8 @@ module _ {C : Type 0} where
 pub none_is : {A : Type 0} (o : Option A) → is_some o ≡ false → o ≡ None
 none_is None none = refl
 none_is (Some a) none = absurd (let h = none in cc)
+
+-- the number of the next connection is one more than how many were made
+pub next_is : {C : Type 0} (b : Bool) (cs : List C) (n : ℕ) → (if b then Some (length cs + 1) else None) ≡ Some n → n ≡ length cs + 1
+next_is true cs n next = cc
+next_is false cs n next = absurd (cc)
