@@ -102,7 +102,10 @@ impl<P: Payload> Core<P> {
     {
         match request_of(event) {
             Request::Feed(frame) => self.frame(alloc, actor, frame, home),
-            Request::Make => self.make(alloc, actor, boxes),
+            Request::Make => match self.make(alloc, actor, boxes) {
+                Ok(made) => Ok(made),
+                Err(none) => Err((none, Event::New(Proto::Udp))),
+            },
             Request::Close(conn) => Ok(self.close(alloc, actor, conn, boxes)),
             Request::End => Ok(self.end(alloc, actor)),
             Request::Answer(text) => Ok(self.answer(alloc, actor, text)),
@@ -143,19 +146,16 @@ impl<P: Payload> Core<P> {
         alloc: Global,
         actor: u32,
         boxes: &mut B,
-    ) -> Result<(Entry, Reply), (NoMemory, Event<P>)>
+    ) -> Result<(Entry, Reply), NoMemory>
         requires boxes { AreBoxesOf self.old.state.endpoints.conns (B.seen boxes.old) }
         ensures ok { IfOk result (λ r. IsQuietStep self.old actor (Event.New Proto.Udp) r.0 r.1 self.new) }
-        ensures event { IfErr result (λ r. r.1 ≡ Event.New Proto.Udp) }
         ensures err { OnErr result (self.new ≡ self.old) }
         ensures boxes { AreBoxesOf self.new.state.endpoints.conns (B.seen boxes.new) }
         ensures items { KeepItems (B.seen boxes.old) (B.seen boxes.new) }
         ensures capacity { B.capacity boxes.new ≡ B.capacity boxes.old }
     {
-        match self.layers.new_udp(boxes) {
-            Ok(reply) => Ok(quiet(alloc, actor, Event::New(Proto::Udp), reply)),
-            Err(none) => Err((none, Event::New(Proto::Udp))),
-        }
+        let reply = self.layers.new_udp(boxes)?;
+        Ok(quiet(alloc, actor, Event::New(Proto::Udp), reply))
     }
 
     // Closes a connection.
