@@ -2,8 +2,11 @@ pub mod State
 pub mod Datagrams
 pub mod Arrivals
 pub mod Input
+pub mod Calls
 pub mod Step
 pub mod History
+pub mod Boxes
 pub mod Held
 pub mod Layers
+pub mod Requests
 pub mod Laws
