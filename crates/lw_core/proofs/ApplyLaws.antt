@@ -30,7 +30,8 @@ use Rattle.lw_core.specs.Datagrams.{is_fragment}
 use Rattle.lw_core.specs.Input.{Moved, begun, by_added, ip_input, moved}
 use Rattle.lw_core.specs.Layers.{change_of, fragments_with, link_with, IsPlanned}
 use Rattle.lw_core.specs.State.{State}
-use Rattle.lw_core.specs.Step.{counted, frame_step, with_frame}
+use Rattle.lw_core.specs.Outcomes.{counted}
+use Rattle.lw_core.specs.Step.{frame_step, with_frame}
 use Rattle.lw_core.proofs.MoveLaws.{Moves-around, Moves-by, Moves-front, Moves-turned}
 
 -- What is planned

@@ -9,4 +9,5 @@ pub mod OwnLaws
 mod PlanLaws
 pub mod ShortFrames
 mod SoundLaws
+mod TickLaws
 mod WaitLaws

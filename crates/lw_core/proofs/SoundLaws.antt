@@ -1,5 +1,5 @@
 -- The way out stays sound over an event.
-use Rattle.std.proofs.Common.{◌≡◌, ℕ, ◌<◌, ◌^◌, ◌==◌, ◌&&◌, Bool, true, false, List, [], ◌∷◌, All, IfErr, IfOk, IfSome, Option, Some, None, Result, Ok, Err, arith, drop, length, map, nat_lt, subst, sym, if◌then◌else◌}
+use Rattle.std.proofs.Common.{◌≡◌, ℕ, ◌<◌, ◌^◌, ◌==◌, ◌&&◌, Bool, true, false, List, [], ◌∷◌, All, IfErr, IfOk, IfSome, OnErr, OnOk, Option, Some, None, Result, Ok, Err, arith, drop, length, map, nat_lt, subst, sym, if◌then◌else◌}
 use Rattle.std.specs.List.{AllZip, cons_option}
 use Rattle.std.specs.Option.{option_map}
 use Rattle.std.proofs.lemmas.List.{length-take}
@@ -140,7 +140,7 @@ moved_sound s frame (Datagram h) six sound =
 moved_sound s frame Nothing six sound = sound
 
 -- the next event begins soundly
-ended_sound : (w : Way) → IsSoundWay w → IsSoundWay (record { link = w.link; out = [] })
+pub ended_sound : (w : Way) → IsSoundWay w → IsSoundWay (record { link = w.link; out = [] })
 ended_sound w sound = record { own = sound.own; others = sound.others; frames = All-nil IsShort }
 
 -- a frame leaves the way out sound, whether RAM was short for it or not
@@ -155,3 +155,8 @@ pub received_sound : {A E : Type 0} (s t : State) (octets : List ℕ) (short : A
     → ((e : E) → B e → t ≡ s) → IfErr r B → IsSoundWay (begun t)
 received_sound s t octets short B (Ok x) sound ok same err = subst (λ (y : State). IsSoundWay (begun y)) (sym ok) (granted_sound s octets (short x) sound)
 received_sound s t octets short B (Err e) sound ok same err = subst (λ (y : State). IsSoundWay (begun y)) (sym (same e err)) sound
+
+-- what makes ready for an event and then does it leaves the way out sound, where the step does; without memory nothing changed
+pub made_sound : {A E : Type 0} (s t u : State) (r : Result A E) → IsSoundWay (begun s) → IsSoundWay (begun u) → OnOk r (t ≡ u) → OnErr r (t ≡ s) → IsSoundWay (begun t)
+made_sound s t u (Ok x) before after ok err = subst (λ (y : State). IsSoundWay (begun y)) (sym ok) after
+made_sound s t u (Err e) before after ok err = subst (λ (y : State). IsSoundWay (begun y)) (sym err) before

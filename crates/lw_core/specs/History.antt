@@ -1,16 +1,17 @@
 -- Histories of the serial stack.
 use Rattle.std.specs.Prelude.{ℕ, ◌≡◌, false, List, [], ◌∷◌}
 use Rattle.lw_events.specs.declared.event.Event.{Event}
-use Rattle.lw_events.specs.declared.event.Event.TheVariants.{Frame, Stop}
+use Rattle.lw_events.specs.declared.event.Event.TheVariants.{Frame, Tick, Stop}
 use Rattle.lw_events.specs.declared.event.Reply.{Reply}
 use Rattle.lw_events.specs.declared.entry.Entry.{Entry}
 use Rattle.lw_events.specs.Events.{Grants, grants_of}
 use Rattle.lw_core.specs.State.{State}
 use Rattle.lw_core.specs.Step.{step}
 
--- the events that the stack has by now: a frame, and the end of the run
+-- the events that the stack has by now: a frame, a tick, and the end of the run
 abbrev pub IsServed : {P : Type 0} → Event P → Type 0
 IsServed (Frame p) = Unit {0}
+IsServed Tick = Unit {0}
 IsServed Stop = Unit {0}
 IsServed other = ⊥
 

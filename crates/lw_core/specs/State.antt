@@ -5,9 +5,10 @@ use Rattle.lw_base.specs.declared.limits.Limits.{Limits}
 use Rattle.lw_link.specs.Way.{Link}
 use Rattle.lw_reass.specs.Datagrams.{Datagram}
 
--- the words that a stack shows: how many frames came, and whether the run was stopped
+-- the words that a stack shows: how many frames came, how many ticks went by, and whether the run was stopped
 pub record Words : Type 0 where
   pub frames : ℕ
+  pub ticks : ℕ
   pub stopped : Bool
 
 -- the state of a stack: its limits; the link, with its address, what is known of its neighbours and the next identification; the
@@ -26,5 +27,5 @@ opening net limits = record {
   link = record { net = net; neighbours = []; next_id = 0 };
   fragments = [];
   sent = [];
-  words = record { frames = 0; stopped = false };
+  words = record { frames = 0; ticks = 0; stopped = false };
 }

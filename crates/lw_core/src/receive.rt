@@ -49,6 +49,17 @@ pub fn nothing(alloc: Global, short: bool) -> Received
     }
 }
 
+/// Nothing was posted, and frames were sent.
+pub fn sent(alloc: Global, frames: FrameList) -> Received
+    ensures { result ≡ record { posts = []; frames = frames; short = false } }
+{
+    Received {
+        posts: PostList::from_vec(Vec::new(alloc)),
+        frames,
+        short: false,
+    }
+}
+
 impl<P: Payload> Layers<P> {
     /// Takes a frame with these octets in.
     pub fn receive(
@@ -71,11 +82,10 @@ impl<P: Payload> Layers<P> {
         ensures err { IfErr result (λ r. IsSameLayers P.seen self.old self.new × IsSameButRoom (P.seen frame) (P.seen r.1) × (P.home_seen home.new ≡ P.home_seen home.old)) }
     {
         match self.ready(alloc, home, &mut frame, octets) {
-            Ok(Some(Ready { plan, ram })) => Ok(Received {
-                posts: PostList::from_vec(Vec::new(alloc)),
-                frames: self.apply(home, frame, plan, ram),
-                short: false,
-            }),
+            Ok(Some(Ready { plan, ram })) => {
+                let frames = self.apply(home, frame, plan, ram);
+                Ok(sent(alloc, frames))
+            }
             Ok(None) => {
                 spend(home, frame);
                 self.count();

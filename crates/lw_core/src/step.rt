@@ -13,7 +13,7 @@ ghost use Rattle.lw_core.specs.Held.{held_by, IsSameCore, IsTied, MakesRam, RamI
 
 use crate::NoMemory;
 use crate::layers::{Layers, Words};
-use crate::receive::{Received, nothing};
+use crate::receive::{Received, nothing, sent};
 use lw_arp::{ArpEntry, ArpTable};
 use lw_base::{Limits, Octets};
 use lw_events::{Entry, Event, PostList, Reply};
@@ -61,6 +61,7 @@ impl<P: Payload> Core<P> {
                 sent: Sent::new(),
                 words: Words {
                     frames: 0,
+                    ticks: 0,
                     stopped: false,
                 },
             },
@@ -88,9 +89,11 @@ impl<P: Payload> Core<P> {
     {
         match event {
             Event::Frame(frame) => self.frame(alloc, actor, frame, home),
+            Event::Tick => self.tick(alloc, actor, home),
             Event::Stop => {
                 self.layers.words.stopped = true;
-                Ok(entry(actor, Event::Stop, nothing(alloc, false)))
+                let made = nothing(alloc, false);
+                Ok(entry(actor, Event::Stop, made, Reply::Done))
             }
             _ => unreachable!(),
         }
@@ -117,8 +120,31 @@ impl<P: Payload> Core<P> {
             Err(none) => return Err((none, Event::Frame(frame))),
         };
         match self.layers.receive(alloc, home, frame, octets.as_slice()) {
-            Ok(made) => Ok(entry(actor, Event::Frame(octets), made)),
+            Ok(made) => Ok(entry(actor, Event::Frame(octets), made, Reply::Done)),
             Err((none, frame)) => Err((none, Event::Frame(frame))),
+        }
+    }
+
+    fn tick(
+        &mut self,
+        alloc: Global,
+        actor: u32,
+        home: &mut P::Home,
+    ) -> Result<(Entry, Reply), (NoMemory, Event<P>)>
+        requires owned { IsOwned (P.home_seen home.old) (total P.seen (P.home_seen home.old).pools.family (held_by self.old)) }
+        ensures ok { IfOk result (λ r. IsStep self.old.state actor Event.Tick r.0 r.1 self.new.state) }
+        ensures moves { OnOk result (Moves (P.home_seen home.old) (P.home_seen home.new) (total P.seen (P.home_seen home.old).pools.family (held_by self.old)) (total P.seen (P.home_seen home.old).pools.family (held_by self.new))) }
+        ensures short { IfOk result (λ r. r.0.short ≡ false) }
+        ensures event { IfErr result (λ r. r.1 ≡ Event.Tick) }
+        ensures err { IfErr result (λ _. IsSameCore P.seen self.old self.new × (P.home_seen home.new ≡ P.home_seen home.old)) }
+    {
+        match self.layers.tick(alloc, home) {
+            Ok(frames) => {
+                let made = sent(alloc, frames);
+                let reply = Reply::Ticks(self.layers.words.ticks);
+                Ok(entry(actor, Event::Tick, made, reply))
+            }
+            Err(none) => Err((none, Event::Tick)),
         }
     }
 
@@ -159,9 +185,9 @@ fn spend_waiting<P: Payload>(home: &mut P::Home, entries: Vec<ArpEntry<P>>)
     }
 }
 
-/// The entry of an event that was made, and its reply.
-fn entry(actor: u32, event: Event<Octets>, made: Received) -> (Entry, Reply)
-    ensures { result ≡ (record { actor = actor; event = event; short = made.short; posts = made.posts; frames = made.frames; reply = Reply.Done }, Reply.Done) }
+/// The entry of an event that was made and answered so, and the answer.
+fn entry(actor: u32, event: Event<Octets>, made: Received, reply: Reply) -> (Entry, Reply)
+    ensures { result ≡ (record { actor = actor; event = event; short = made.short; posts = made.posts; frames = made.frames; reply = reply }, reply) }
 {
     let Received {
         posts,
@@ -174,7 +200,7 @@ fn entry(actor: u32, event: Event<Octets>, made: Received) -> (Entry, Reply)
         short,
         posts,
         frames,
-        reply: Reply::Done,
+        reply,
     };
-    (entry, Reply::Done)
+    (entry, reply)
 }
