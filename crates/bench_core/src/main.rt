@@ -12,6 +12,7 @@ ghost use Rattle.lw_core.specs.Held.{held_by, MakesRam};
 mod rounds;
 
 use lw_base::{Ip, Limits, Mac, Octets};
+use lw_boxes::ListBoxes;
 use lw_core::Core;
 use lw_netif::Netif;
 use lw_payload::Payload;
@@ -45,7 +46,8 @@ const REQUEST: [u8; 42] = [
 
 /// A stack at 10.0.0.1.
 fn stack<P: Payload>(alloc: Global) -> Result<Core<P>, AllocError>
-    ensures { IfOk result (λ c. held_by c ≡ []) }
+    ensures held { IfOk result (λ c. held_by c ≡ []) }
+    ensures none { IfOk result (λ c. c.state.endpoints.conns ≡ []) }
 {
     let netif = Netif::new(
         Ip(0x0a00_0001),
@@ -78,8 +80,9 @@ fn time_frames<P: Payload, R: Clock>(
     requires none { (P.home_seen home.old).counts.made + (P.home_seen home.old).counts.refused ≡ 0 }
 {
     let mut core = stack::<P>(alloc)?;
+    let mut boxes = ListBoxes::<P>::new(alloc, LIMITS.mailbox);
     let start = Instant::now(rt)?;
-    let sent = rounds(alloc, &mut core, home, frames, count);
+    let sent = rounds(alloc, &mut core, home, &mut boxes, frames, count);
     Ok((start.elapsed(rt)?.as_nanos(), sent))
 }
 

@@ -2,9 +2,11 @@
 ghost use Rattle.std.specs.Prelude.{◌≡◌, ◌+◌, ◌-◌, ◌^◌, ◌<◌, ◌≤◌, length, IsTrue, OnSome};
 ghost use Rattle.lw_payload.specs.declared.kinds.Kind.{Kind};
 ghost use Rattle.lw_payload.specs.Totals.{total, IsOwned};
+ghost use Rattle.lw_core.specs.Boxes.{AreBoxesOf};
 ghost use Rattle.lw_core.specs.Held.{held_by, MakesRam};
 
 use lw_base::Octets;
+use lw_boxes::Boxes;
 use lw_core::Core;
 use lw_events::Event;
 use lw_payload::{Kind, Payload};
@@ -12,10 +14,11 @@ use std::alloc::Global;
 
 /// Makes a payload of POOL with the octets of a frame, and lets the stack take it in. How many frames it sent; none where memory
 /// or a pbuf was wanting.
-fn feed<P: Payload>(
+fn feed<P: Payload, B: Boxes<P>>(
     alloc: Global,
     core: &mut Core<P>,
     home: &mut P::Home,
+    boxes: &mut B,
     octets: &[u8],
 ) -> Option<u64>
     requires owned { IsOwned (P.home_seen home.old) (total P.seen (P.home_seen home.old).pools.family (held_by core.old)) }
@@ -23,25 +26,28 @@ fn feed<P: Payload>(
     requires pool { IsTrue ((P.home_seen home.old).pools.makes Kind.Pool) }
     requires countable { (P.home_seen home.old).counts.made + (P.home_seen home.old).counts.refused < 2 ^ 64 - 1 }
     requires short { length octets.now < 2 ^ 32 }
+    requires boxes { AreBoxesOf core.old.state.endpoints.conns (B.seen boxes.old) }
     ensures owned { OnSome result (IsOwned (P.home_seen home.new) (total P.seen (P.home_seen home.new).pools.family (held_by core.new))) }
     ensures pools { OnSome result ((P.home_seen home.new).pools ≡ (P.home_seen home.old).pools) }
     ensures counts { OnSome result ((P.home_seen home.new).counts.made + (P.home_seen home.new).counts.refused
         ≤ (P.home_seen home.old).counts.made + (P.home_seen home.old).counts.refused + 1) }
+    ensures boxes { AreBoxesOf core.new.state.endpoints.conns (B.seen boxes.new) }
 {
     let Ok(frame) = P::make(alloc, home, Kind::Pool, octets) else {
         return None;
     };
-    match core.step(alloc, 0, Event::Frame(frame), home) {
+    match core.step(alloc, 0, Event::Frame(frame), home, boxes) {
         Ok((entry, _)) => Some(entry.frames.len() as u64),
         Err(_) => None,
     }
 }
 
 /// Feeds so many frames, one after another and again from the first. How many went out.
-pub fn rounds<P: Payload>(
+pub fn rounds<P: Payload, B: Boxes<P>>(
     alloc: Global,
     core: &mut Core<P>,
     home: &mut P::Home,
+    boxes: &mut B,
     frames: &[Octets],
     count: u32,
 ) -> u64
@@ -49,6 +55,7 @@ pub fn rounds<P: Payload>(
     requires ram { MakesRam (P.home_seen home.old) }
     requires pool { IsTrue ((P.home_seen home.old).pools.makes Kind.Pool) }
     requires countable { (P.home_seen home.old).counts.made + (P.home_seen home.old).counts.refused + count < 2 ^ 64 - 1 }
+    requires boxes { AreBoxesOf core.old.state.endpoints.conns (B.seen boxes.old) }
 {
     let mut sent = 0u64;
     let mut place = 0usize;
@@ -63,7 +70,7 @@ pub fn rounds<P: Payload>(
         if octets.len() > 65_535 {
             return sent;
         }
-        match feed(alloc, core, home, octets.as_slice()) {
+        match feed(alloc, core, home, boxes, octets.as_slice()) {
             Some(out) => sent = sent.saturating_add(out),
             None => return sent,
         }

@@ -124,11 +124,6 @@ module _ {C : Type 0} where
             has_removed es conn n away ∙ both n ∙ ap is_some (sym (less_elsewhere cs conn n some away))
       ] refl
 
--- the number of the next connection is one more than how many were made
-pub next_is : {C : Type 0} (b : Bool) (cs : List C) (n : ℕ) → (if b then Some (length cs + 1) else None) ≡ Some n → n ≡ length cs + 1
-next_is true cs n next = cc
-next_is false cs n next = absurd (cc)
-
 -- an answer of the table of UDP ends, and the table after it
 pub by_udp_is : (e : Table) (r : Result UdpTable Code) → (reply_of (answer_of r), record e { udp = table_after e.udp r }) ≡ by_udp e r
 by_udp_is e (Ok t) = refl

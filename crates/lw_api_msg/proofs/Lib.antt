@@ -1,2 +1,2 @@
 mod EndLaws
-mod PlaceLaws
+pub mod PlaceLaws

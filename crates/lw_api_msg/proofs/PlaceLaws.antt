@@ -1,6 +1,6 @@
 -- Elements of a list by their places, once one is put behind the others or in place of another.
-use Rattle.std.proofs.Common.{◌≡◌, ◌≢◌, ℕ, zero, suc, ◌+◌, ◌-◌, ◌==◌, if◌then◌else◌, true, false, List, [], ◌∷◌, ◌++◌, length, Option, Some, None, is_some, option_and_then, slice_get, slice_set, refl, ap, arith}
-use Rattle.std.proofs.lemmas.Bool.{eqb-false, eqb-true}
+use Rattle.std.proofs.Common.{◌≡◌, ◌≢◌, ℕ, zero, suc, ◌+◌, ◌-◌, ◌==◌, ◌<◌, ◌≤◌, ◌∙◌, if◌then◌else◌, Bool, true, false, List, [], ◌∷◌, ◌++◌, length, Option, Some, None, is_some, option_and_then, slice_get, slice_set, refl, sym, ap, ⊎_elim, arith}
+use Rattle.std.proofs.lemmas.Bool.{cases_lt, eqb-false, eqb-true}
 use Rattle.std.proofs.lemmas.Option.{slice_get_past}
 
 above : (n l : ℕ) → (n ≡ 0 → ⊥) → n - 1 ≡ l → n ≡ l + 1
@@ -82,14 +82,31 @@ module _ {C : Type 0} where
   numbered cs zero there = absurd (let a = there in cc)
   numbered cs (suc m) there = λ e. absurd (omega (arith, e))
 
-  -- the next number has none yet
-  pub none_next : (cs : List (Option C)) (n : ℕ) → n ≡ length cs + 1 → at cs n ≡ None
-  none_next cs n next =
+  -- past the numbers that were given there is none
+  pub none_past : (cs : List (Option C)) (n : ℕ) → length cs < n → at cs n ≡ None
+  none_past cs n past =
       elim (n == 0) as (λ b. (if b then None else option_and_then (λ c. c) (slice_get cs (n - 1))) ≡ None) [
         | true ↦ refl
-        | false ↦ ap (option_and_then (λ (c : Option C). c)) (slice_get_past cs (n - 1) (omega (arith, next)))
+        | false ↦ ap (option_and_then (λ (c : Option C). c)) (slice_get_past cs (n - 1) (omega (arith, past)))
       ]
+
+  -- so the next number has none yet
+  pub none_next : (cs : List (Option C)) (n : ℕ) → n ≡ length cs + 1 → at cs n ≡ None
+  none_next cs n next = none_past cs n (omega (arith, next))
+
+  -- what is there has a number that was given
+  pub given : (cs : List (Option C)) (n : ℕ) → is_some (at cs n) ≡ true → n ≤ length cs
+  given cs n there =
+      ⊎_elim
+      (λ (past : length cs < n). absurd (let none : false ≡ true = sym (ap is_some (none_past cs n past)) ∙ there in cc))
+      (λ (within : n ≤ length cs). within)
+      (cases_lt (length cs) n)
 
 pub none_is : {A : Type 0} (o : Option A) → is_some o ≡ false → o ≡ None
 none_is None none = refl
 none_is (Some a) none = absurd (let h = none in cc)
+
+-- the number of the next connection is one more than how many were made
+pub next_is : {C : Type 0} (b : Bool) (cs : List C) (n : ℕ) → (if b then Some (length cs + 1) else None) ≡ Some n → n ≡ length cs + 1
+next_is true cs n next = cc
+next_is false cs n next = absurd (cc)

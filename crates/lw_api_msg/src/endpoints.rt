@@ -1,5 +1,5 @@
 ghost use Rattle.std.specs.Prelude.{◌≡◌, IfOk, OnErr, option_copied};
-ghost use Rattle.lw_conn.specs.Connections.{connection};
+ghost use Rattle.lw_conn.specs.Connections.{connection, next_number};
 ghost use Rattle.lw_api_msg.specs.Endpoints.{close, getaddr, geterror, new_udp, of_streams, opening, recved};
 
 use crate::NoMemory;
@@ -50,6 +50,14 @@ impl Endpoints {
         ensures { option_copied result ≡ connection self.now.conns conn }
     {
         self.conns.get(conn)
+    }
+
+    /// The number of the next connection: none where as many are live as the limits allow, or no number
+    /// is left.
+    pub fn next(&self, limits: &Limits) -> Option<u32>
+        ensures { result ≡ next_number limits.now.live self.now.conns }
+    {
+        self.conns.next(limits.live)
     }
 
     /// Makes a connection of UDP.

@@ -143,6 +143,7 @@ pub state_applied : (s : State) (octets : List ℕ) (plan : FramePlan) (table : 
       link = record { net = s.link.net; neighbours = table; next_id = plan.link.next_id };
       fragments = ds;
       sent = s.sent ++ take (frames_left s.sent) plan.link.frames.items;
+      endpoints = s.endpoints;
       words = with_frame s.words;
     } ≡ (frame_step s octets).state
 state_applied s octets plan table ds planned table_is ds_is =
@@ -154,9 +155,9 @@ state_applied s octets plan table ds planned table_is ds_is =
     ∙ ap (λ (w : Way). w.link) planned.sends.made in
     let fragments_is : ds ≡ m.fragments = ds_is ∙ ap (fragments_with s.fragments octets) planned.change ∙ fragments_moved s octets (arrival_of s.link.net octets) in
     let out_is : plan.link.frames.items ≡ way.out = ap (λ (w : Way). w.out) planned.sends.made in
-    ap (λ (l : Link). record { limits = s.limits; link = l; fragments = ds; sent = s.sent ++ take (frames_left s.sent) plan.link.frames.items; words = with_frame s.words }) link_is
-    ∙ ap (λ (x : List OpenDatagram). record { limits = s.limits; link = way.link; fragments = x; sent = s.sent ++ take (frames_left s.sent) plan.link.frames.items; words = with_frame s.words }) fragments_is
-    ∙ ap (λ (out : List (List ℕ)). record { limits = s.limits; link = way.link; fragments = m.fragments; sent = s.sent ++ take (frames_left s.sent) out; words = with_frame s.words }) out_is
+    ap (λ (l : Link). record { limits = s.limits; link = l; fragments = ds; sent = s.sent ++ take (frames_left s.sent) plan.link.frames.items; endpoints = s.endpoints; words = with_frame s.words }) link_is
+    ∙ ap (λ (x : List OpenDatagram). record { limits = s.limits; link = way.link; fragments = x; sent = s.sent ++ take (frames_left s.sent) plan.link.frames.items; endpoints = s.endpoints; words = with_frame s.words }) fragments_is
+    ∙ ap (λ (out : List (List ℕ)). record { limits = s.limits; link = way.link; fragments = m.fragments; sent = s.sent ++ take (frames_left s.sent) out; endpoints = s.endpoints; words = with_frame s.words }) out_is
 
 -- what the stack holds after it
 pub applied_moves : {P : Type 0} (seen : P → View) (h i j k : HomeView) (frame ram : P) (held table kept waits now after : List P)

@@ -1,5 +1,7 @@
 mod AnswerLaws
 mod ApplyLaws
+pub mod BoxLaws
+mod CallLaws
 mod ClaimLaws
 mod CutLaws
 mod FrameLaws
@@ -7,6 +9,7 @@ mod KeepLaws
 mod MoveLaws
 pub mod OwnLaws
 mod PlanLaws
+mod RequestLaws
 pub mod ShortFrames
 mod SoundLaws
 mod TickLaws

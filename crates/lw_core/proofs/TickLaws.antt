@@ -59,6 +59,7 @@ pub state_ticked : (s : State) (table : List (ArpEntry (List ℕ))) (ds : List D
       link = record { net = s.link.net; neighbours = table; next_id = s.link.next_id };
       fragments = ds;
       sent = s.sent ++ take (frames_left s.sent) frames;
+      endpoints = s.endpoints;
       words = with_tick s.words;
     } ≡ (tick_step s).state
 state_ticked s table ds frames table_is ds_is frames_is =
@@ -66,9 +67,9 @@ state_ticked s table ds frames table_is ds_is frames_is =
     let link_is : record { net = s.link.net; neighbours = table; next_id = s.link.next_id } ≡ way.link =
     ap (λ (t : List (ArpEntry (List ℕ))). record { net = s.link.net; neighbours = t; next_id = s.link.next_id }) table_is
     ∙ sym (asks_link (knows (begun s) (neighbours_aged s.link.neighbours)) (asked_again s.link.neighbours)) in
-    ap (λ (l : Link). record { limits = s.limits; link = l; fragments = ds; sent = s.sent ++ take (frames_left s.sent) frames; words = with_tick s.words }) link_is
-    ∙ ap (λ (x : List Datagram). record { limits = s.limits; link = way.link; fragments = x; sent = s.sent ++ take (frames_left s.sent) frames; words = with_tick s.words }) ds_is
-    ∙ ap (λ (out : List (List ℕ)). record { limits = s.limits; link = way.link; fragments = fragments_aged s.fragments; sent = s.sent ++ take (frames_left s.sent) out; words = with_tick s.words }) frames_is
+    ap (λ (l : Link). record { limits = s.limits; link = l; fragments = ds; sent = s.sent ++ take (frames_left s.sent) frames; endpoints = s.endpoints; words = with_tick s.words }) link_is
+    ∙ ap (λ (x : List Datagram). record { limits = s.limits; link = way.link; fragments = x; sent = s.sent ++ take (frames_left s.sent) frames; endpoints = s.endpoints; words = with_tick s.words }) ds_is
+    ∙ ap (λ (out : List (List ℕ)). record { limits = s.limits; link = way.link; fragments = fragments_aged s.fragments; sent = s.sent ++ take (frames_left s.sent) out; endpoints = s.endpoints; words = with_tick s.words }) frames_is
 
 -- What is held
 

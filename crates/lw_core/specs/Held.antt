@@ -1,10 +1,14 @@
 -- The payloads that a stack holds, and the RAM that a frame takes.
-use Rattle.std.specs.Prelude.{◌≡◌, ℕ, ◌+◌, ◌^◌, ◌<◌, List, ◌++◌, All, flat_map, length, map, IsSome, IsTrue}
+use Rattle.std.specs.Prelude.{◌≡◌, ℕ, ◌+◌, ◌^◌, ◌<◌, false, List, ◌++◌, All, flat_map, length, map, IsSome, IsTrue}
 use Rattle.std.specs.List.{AllZip}
 use Rattle.lw_payload.specs.declared.kinds.Kind.{Kind}
 use Rattle.lw_payload.specs.Views.{Slot, View, HomeView, IsShort, IsTooLong}
 use Rattle.lw_runs.specs.Kept.{AreSameButRoom, Stand}
 use Rattle.lw_arp.specs.Neighbours.{packets}
+use Rattle.lw_events.specs.declared.event.Event.{Event}
+use Rattle.lw_events.specs.declared.event.Reply.{Reply}
+use Rattle.lw_events.specs.declared.entry.Entry.{Entry}
+use Rattle.lw_core.specs.History.{IsStep}
 use Rattle.lw_core.specs.State.{State}
 
 -- what contracts see of a stack: its state, and the payloads that it holds: the packets that wait, and those that are kept of
@@ -30,6 +34,14 @@ pub record IsSameCore {P : Type 0} (seen : P → View) (before after : CoreSeen 
   pub state : after.state ≡ before.state
   pub waiting : after.waiting ≡ before.waiting
   pub kept : AreSameButRoom seen (flat_map (λ ps. ps) before.kept) (flat_map (λ ps. ps) after.kept)
+
+-- an event was made that brings no payload: no pool was short for it, and the stack holds what it held
+pub record IsQuietStep {P : Type 0} (before : CoreSeen P) (actor : ℕ) (event : Event (List ℕ)) (entry : Entry) (reply : Reply)
+    (after : CoreSeen P) : Type 0 where
+  pub step : IsStep before.state actor event entry reply after.state
+  pub short : entry.short ≡ false
+  pub waiting : after.waiting ≡ before.waiting
+  pub kept : after.kept ≡ before.kept
 
 -- a Home makes payloads of RAM, of as many octets as a packet has at most
 pub record MakesRam (h : HomeView) : Type 0 where

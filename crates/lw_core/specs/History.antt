@@ -1,19 +1,12 @@
 -- Histories of the serial stack.
 use Rattle.std.specs.Prelude.{ℕ, ◌≡◌, false, List, [], ◌∷◌}
 use Rattle.lw_events.specs.declared.event.Event.{Event}
-use Rattle.lw_events.specs.declared.event.Event.TheVariants.{Frame, Tick, Stop}
 use Rattle.lw_events.specs.declared.event.Reply.{Reply}
 use Rattle.lw_events.specs.declared.entry.Entry.{Entry}
 use Rattle.lw_events.specs.Events.{Grants, grants_of}
+use Rattle.lw_core.specs.Calls.{IsServed}
 use Rattle.lw_core.specs.State.{State}
 use Rattle.lw_core.specs.Step.{step}
-
--- the events that the stack has by now: a frame, a tick, and the end of the run
-abbrev pub IsServed : {P : Type 0} → Event P → Type 0
-IsServed (Frame p) = Unit {0}
-IsServed Tick = Unit {0}
-IsServed Stop = Unit {0}
-IsServed other = ⊥
 
 -- the entry of an event that is granted this: its answer, posts and frames are those of the serial step
 abbrev pub entry_of : State → ℕ → Event (List ℕ) → Grants → Entry
@@ -32,7 +25,7 @@ pub record IsStep (s : State) (actor : ℕ) (event : Event (List ℕ)) (entry : 
 abbrev pub IsReplay : State → List Entry → Type 0
 IsReplay s [] = Unit {0}
 IsReplay s (e ∷ es) =
-    IsServed e.event × (e ≡ entry_of s e.actor e.event (grants_of e)) × IsReplay (step s e.event (grants_of e)).state es
+    IsServed s.limits e.event × (e ≡ entry_of s e.actor e.event (grants_of e)) × IsReplay (step s e.event (grants_of e)).state es
 
 -- all that an event asks for is granted, and it posts nothing
 abbrev pub granted : Grants

@@ -26,6 +26,7 @@ state_of seen s = record {
   link = record { net = s.netif; neighbours = map_entries (λ p. (seen p).octets) s.neighbours; next_id = s.next_id };
   fragments = s.fragments.datagrams;
   sent = s.sent;
+  endpoints = s.endpoints;
   words = record { frames = s.words.frames; ticks = s.words.ticks; stopped = s.words.stopped };
 }
 

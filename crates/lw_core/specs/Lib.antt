@@ -4,8 +4,11 @@ pub mod Arrivals
 pub mod Input
 pub mod Outcomes
 pub mod Ticks
+pub mod Calls
 pub mod Step
 pub mod History
+pub mod Boxes
 pub mod Held
 pub mod Layers
+pub mod Requests
 pub mod Laws

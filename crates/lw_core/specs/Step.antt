@@ -1,10 +1,12 @@
 -- The serial step: what an event does to a state, its answer, what it posts and the frames that it sends.
-use Rattle.std.specs.Prelude.{ℕ, ◌++◌, Bool, true, false, List, []}
+use Rattle.std.specs.Prelude.{ℕ, ◌++◌, Bool, true, false, List, [], Option, Some, None}
 use Rattle.lw_events.specs.declared.event.Event.{Event}
 use Rattle.lw_events.specs.declared.event.Event.TheVariants.{Frame, Tick, Stop}
 use Rattle.lw_events.specs.declared.event.Reply.TheVariants.{Done}
 use Rattle.lw_events.specs.Events.{Grants}
+use Rattle.lw_api_msg.specs.Endpoints.{Answer}
 use Rattle.lw_core.specs.Arrivals.{arrival_of}
+use Rattle.lw_core.specs.Calls.{call_answer}
 use Rattle.lw_core.specs.Input.{Moved, moved}
 use Rattle.lw_core.specs.Outcomes.{Outcome, counted, going}
 use Rattle.lw_core.specs.State.{State, Words}
@@ -43,31 +45,41 @@ abbrev pub frame_granted : State → List ℕ → Bool → Outcome
 frame_granted s octets true = dropped s
 frame_granted s octets false = frame_step s octets
 
--- the events that the stack has by now
+-- an event of a call is answered: the connections and their names change, and nothing is sent
+abbrev pub answered : State → Answer → Outcome
+answered s a = record { state = record s { endpoints = a.1 }; reply = a.0; short = false; posts = []; frames = [] }
+
+-- what becomes of an event: a frame is taken in, a call is answered, the run ends; or the stack hasn't the event yet
 pub data Served : Type 0 where
   Fed : List ℕ → Served
   Ticked : Served
+  Answered : Answer → Served
   Ended : Served
   Unserved : Served
 
--- a frame, a tick and the end of the run are served, and no other event yet
-abbrev pub served : Event (List ℕ) → Served
-served (Frame octets) = Fed octets
-served Tick = Ticked
-served Stop = Ended
-served other = Unserved
+-- what becomes of an event that is neither a frame nor a tick nor the end of the run
+abbrev pub by_answer : Option Answer → Served
+by_answer (Some a) = Answered a
+by_answer None = Unserved
+
+abbrev pub served : State → Event (List ℕ) → Served
+served s (Frame octets) = Fed octets
+served s Tick = Ticked
+served s Stop = Ended
+served s other = by_answer (call_answer s other)
 
 -- an event that isn't served changes nothing
 abbrev pub unserved : State → Outcome
 unserved s = record { state = s; reply = Done; short = false; posts = []; frames = [] }
 
--- the step of an event that is served
+-- the step of an event, by what becomes of it
 abbrev pub served_step : State → Served → Grants → Outcome
 served_step s (Fed octets) g = frame_granted s octets g.short
 served_step s Ticked g = tick_step s
+served_step s (Answered a) g = answered s a
 served_step s Ended g = stopped s
 served_step s Unserved g = unserved s
 
 -- the serial step of an event, by what it is granted; only a frame needs RAM, and no event posts
 abbrev pub step : State → Event (List ℕ) → Grants → Outcome
-step s event g = served_step s (served event) g
+step s event g = served_step s (served s event) g

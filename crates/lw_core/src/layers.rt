@@ -1,4 +1,5 @@
 //! The layers of a stack, and what each of them keeps.
+use lw_api_msg::Endpoints;
 use lw_arp::ArpTable;
 use lw_base::Limits;
 use lw_netif::{Netif, Sent};
@@ -15,7 +16,8 @@ pub struct Words {
 }
 
 /// What a stack is made of: its interface, the table of its neighbours and the identification of the
-/// next datagram; the fragments that are kept; the frames that were sent; and its words.
+/// next datagram; the fragments that are kept; the frames that were sent; the connections, with their ends
+/// and names; and its words.
 #[derive(Drop)]
 pub struct Layers<P: Payload> {
     pub limits: Limits,
@@ -24,5 +26,6 @@ pub struct Layers<P: Payload> {
     pub next_id: u16,
     pub fragments: Reass<P>,
     pub sent: Sent,
+    pub endpoints: Endpoints,
     pub words: Words,
 }

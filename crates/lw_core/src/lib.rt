@@ -2,6 +2,7 @@
 #![tactic(auto)]
 
 mod arrival;
+mod calls;
 mod change;
 mod claim;
 mod input;
@@ -9,6 +10,7 @@ mod laws;
 mod layers;
 mod plan;
 mod receive;
+mod request;
 mod step;
 mod tick;
 

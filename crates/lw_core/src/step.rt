@@ -6,17 +6,24 @@ ghost use Rattle.lw_payload.specs.Calls.{IsSameButRoom};
 ghost use Rattle.lw_payload.specs.Totals.{total, IsOwned, Moves};
 ghost use Rattle.lw_events.specs.Events.{payloads_in, text_of, IsSameEvent};
 ghost use Rattle.lw_events.specs.declared.event.Event.{Event};
+ghost use Rattle.lw_events.specs.declared.event.Proto.{Proto};
 ghost use Rattle.lw_arp.specs.Neighbours.{packets};
 ghost use Rattle.lw_core.specs.State.{opening};
-ghost use Rattle.lw_core.specs.History.{IsServed, IsStep};
-ghost use Rattle.lw_core.specs.Held.{held_by, IsSameCore, IsTied, MakesRam, RamIsShort};
+ghost use Rattle.lw_core.specs.Calls.{IsAsking, IsServed};
+ghost use Rattle.lw_core.specs.History.{IsStep};
+ghost use Rattle.lw_core.specs.Boxes.{AreBoxesOf, KeepItems};
+ghost use Rattle.lw_core.specs.Held.{held_by, IsQuietStep, IsSameCore, IsTied, MakesRam, RamIsShort};
+ghost use Rattle.lw_core.specs.Requests.{request_of};
 
 use crate::NoMemory;
 use crate::layers::{Layers, Words};
 use crate::receive::{Received, nothing, sent};
+use crate::request::{Request, request_of};
+use lw_api_msg::Endpoints;
 use lw_arp::{ArpEntry, ArpTable};
 use lw_base::{Limits, Octets};
-use lw_events::{Entry, Event, PostList, Reply};
+use lw_boxes::Boxes;
+use lw_events::{Entry, Event, EventText, PostList, Proto, Reply};
 use lw_netif::{Netif, Sent};
 use lw_payload::{Payload, octets_of, spend_all, spend_if};
 use lw_reass::Reass;
@@ -38,11 +45,12 @@ impl<P: Payload> Model for Core<P> {
     ghost use Rattle.lw_reass.specs.Table.{all_kept};
     ghost use Rattle.lw_link.specs.Sound.{IsSoundWay};
     ghost use Rattle.lw_core.specs.Input.{begun};
+    ghost use Rattle.lw_core.specs.Calls.{HasVariables};
     ghost use Rattle.lw_core.specs.Layers.{state_of};
 
     ghost view = { λ c. record { state = state_of P.seen c.layers; waiting = packets c.layers.neighbours; kept = c.layers.fragments.kept } };
 
-    ghost invariant = { λ c. IsSoundWay (begun (state_of P.seen c.layers)) };
+    ghost invariant = { λ c. IsSoundWay (begun (state_of P.seen c.layers)) × HasVariables (state_of P.seen c.layers) };
 }
 
 impl<P: Payload> Core<P> {
@@ -53,6 +61,7 @@ impl<P: Payload> Core<P> {
     {
         Ok(Core {
             layers: Layers {
+                endpoints: Endpoints::new(alloc, &limits)?,
                 limits,
                 netif,
                 neighbours: ArpTable::new(alloc)?,
@@ -70,35 +79,45 @@ impl<P: Payload> Core<P> {
 
     /// Makes one event of an actor. All memory is taken before anything changes; an event that comes
     /// back is the same. What the event brought and the stack doesn't keep goes to the Home.
-    pub fn step(
+    pub fn step<B: Boxes<P>>(
         &mut self,
         alloc: Global,
         actor: u32,
         event: Event<P>,
         home: &mut P::Home,
+        boxes: &mut B,
     ) -> Result<(Entry, Reply), (NoMemory, Event<P>)>
-        requires served { IsServed event }
+        requires served { IsServed self.old.state.limits event }
         requires owned { IsOwned (P.home_seen home.old) (total P.seen (P.home_seen home.old).pools.family (payloads_in event ++ held_by self.old)) }
         requires ram { MakesRam (P.home_seen home.old) }
+        requires boxes { AreBoxesOf self.old.state.endpoints.conns (B.seen boxes.old) }
         ensures ok { IfOk result (λ r. IsStep self.old.state actor (text_of P.seen event) r.0 r.1 self.new.state) }
         ensures moves { OnOk result (Moves (P.home_seen home.old) (P.home_seen home.new) (total P.seen (P.home_seen home.old).pools.family (payloads_in event ++ held_by self.old)) (total P.seen (P.home_seen home.old).pools.family (held_by self.new))) }
         ensures short { IfOk result (λ r. r.0.short ≡ true → RamIsShort P.may_refuse home.old (P.home_seen home.old)) }
         ensures enough { IfOk result (λ r. r.0.short ≡ false → (frame : P) → event ≡ Event.Frame frame → ¬ (IsShort (P.home_seen home.old) Kind.Ram 1)) }
         ensures event { IfErr result (λ r. IsSameEvent P.seen event r.1) }
         ensures err { IfErr result (λ _. IsSameCore P.seen self.old self.new × (P.home_seen home.new ≡ P.home_seen home.old)) }
+        ensures boxes { AreBoxesOf self.new.state.endpoints.conns (B.seen boxes.new) }
+        ensures items { KeepItems (B.seen boxes.old) (B.seen boxes.new) }
+        ensures capacity { B.capacity boxes.new ≡ B.capacity boxes.old }
     {
-        match event {
-            Event::Frame(frame) => self.frame(alloc, actor, frame, home),
-            Event::Tick => self.tick(alloc, actor, home),
-            Event::Stop => {
-                self.layers.words.stopped = true;
-                let made = nothing(alloc, false);
-                Ok(entry(actor, Event::Stop, made, Reply::Done))
-            }
-            _ => unreachable!(),
+        match request_of(event) {
+            Request::Feed(frame) => self.frame(alloc, actor, frame, home),
+            Request::Tick => match self.tick(alloc, actor, home) {
+                Ok(made) => Ok(made),
+                Err(none) => Err((none, Event::Tick)),
+            },
+            Request::Make => match self.make(alloc, actor, boxes) {
+                Ok(made) => Ok(made),
+                Err(none) => Err((none, Event::New(Proto::Udp))),
+            },
+            Request::Close(conn) => Ok(self.close(alloc, actor, conn, boxes)),
+            Request::End => Ok(self.end(alloc, actor)),
+            Request::Answer(text) => Ok(self.answer(alloc, actor, text)),
         }
     }
 
+    // Takes a frame in.
     fn frame(
         &mut self,
         alloc: Global,
@@ -114,6 +133,7 @@ impl<P: Payload> Core<P> {
         ensures enough { IfOk result (λ r. r.0.short ≡ false → ¬ (IsShort (P.home_seen home.old) Kind.Ram 1)) }
         ensures event { IfErr result (λ r. IsSameEvent P.seen (Event.Frame frame) r.1) }
         ensures err { IfErr result (λ _. IsSameCore P.seen self.old self.new × (P.home_seen home.new ≡ P.home_seen home.old)) }
+        ensures endpoints { self.new.state.endpoints ≡ self.old.state.endpoints }
     {
         let octets = match octets_of(alloc, &frame) {
             Ok(octets) => octets,
@@ -125,27 +145,79 @@ impl<P: Payload> Core<P> {
         }
     }
 
+    // Lets a tick pass.
     fn tick(
         &mut self,
         alloc: Global,
         actor: u32,
         home: &mut P::Home,
-    ) -> Result<(Entry, Reply), (NoMemory, Event<P>)>
+    ) -> Result<(Entry, Reply), NoMemory>
         requires owned { IsOwned (P.home_seen home.old) (total P.seen (P.home_seen home.old).pools.family (held_by self.old)) }
         ensures ok { IfOk result (λ r. IsStep self.old.state actor Event.Tick r.0 r.1 self.new.state) }
         ensures moves { OnOk result (Moves (P.home_seen home.old) (P.home_seen home.new) (total P.seen (P.home_seen home.old).pools.family (held_by self.old)) (total P.seen (P.home_seen home.old).pools.family (held_by self.new))) }
         ensures short { IfOk result (λ r. r.0.short ≡ false) }
-        ensures event { IfErr result (λ r. r.1 ≡ Event.Tick) }
-        ensures err { IfErr result (λ _. IsSameCore P.seen self.old self.new × (P.home_seen home.new ≡ P.home_seen home.old)) }
+        ensures err { OnErr result ((self.new ≡ self.old) × (P.home_seen home.new ≡ P.home_seen home.old)) }
+        ensures endpoints { self.new.state.endpoints ≡ self.old.state.endpoints }
     {
-        match self.layers.tick(alloc, home) {
-            Ok(frames) => {
-                let made = sent(alloc, frames);
-                let reply = Reply::Ticks(self.layers.words.ticks);
-                Ok(entry(actor, Event::Tick, made, reply))
-            }
-            Err(none) => Err((none, Event::Tick)),
-        }
+        let frames = self.layers.tick(alloc, home)?;
+        let made = sent(alloc, frames);
+        let reply = Reply::Ticks(self.layers.words.ticks);
+        Ok(entry(actor, Event::Tick, made, reply))
+    }
+
+    // Makes a connection of UDP.
+    fn make<B: Boxes<P>>(
+        &mut self,
+        alloc: Global,
+        actor: u32,
+        boxes: &mut B,
+    ) -> Result<(Entry, Reply), NoMemory>
+        requires boxes { AreBoxesOf self.old.state.endpoints.conns (B.seen boxes.old) }
+        ensures ok { IfOk result (λ r. IsQuietStep self.old actor (Event.New Proto.Udp) r.0 r.1 self.new) }
+        ensures err { OnErr result (self.new ≡ self.old) }
+        ensures boxes { AreBoxesOf self.new.state.endpoints.conns (B.seen boxes.new) }
+        ensures items { KeepItems (B.seen boxes.old) (B.seen boxes.new) }
+        ensures capacity { B.capacity boxes.new ≡ B.capacity boxes.old }
+    {
+        let reply = self.layers.new_udp(boxes)?;
+        Ok(quiet(alloc, actor, Event::New(Proto::Udp), reply))
+    }
+
+    // Closes a connection.
+    fn close<B: Boxes<P>>(
+        &mut self,
+        alloc: Global,
+        actor: u32,
+        conn: u32,
+        boxes: &mut B,
+    ) -> (Entry, Reply)
+        requires boxes { AreBoxesOf self.old.state.endpoints.conns (B.seen boxes.old) }
+        ensures ok { IsQuietStep self.old actor (Event.Close conn) result.0 result.1 self.new }
+        ensures boxes { AreBoxesOf self.new.state.endpoints.conns (B.seen boxes.new) }
+        ensures items { KeepItems (B.seen boxes.old) (B.seen boxes.new) }
+        ensures capacity { B.capacity boxes.new ≡ B.capacity boxes.old }
+    {
+        let reply = self.layers.close(conn, boxes);
+        quiet(alloc, actor, Event::Close(conn), reply)
+    }
+
+    // Answers an event that asks for no more.
+    fn answer(&mut self, alloc: Global, actor: u32, event: EventText) -> (Entry, Reply)
+        requires asking { IsAsking self.old.state.limits event }
+        ensures ok { IsQuietStep self.old actor event result.0 result.1 self.new }
+        ensures conns { self.new.state.endpoints.conns ≡ self.old.state.endpoints.conns }
+    {
+        let reply = self.layers.answer(&event);
+        quiet(alloc, actor, event, reply)
+    }
+
+    // Ends the run.
+    fn end(&mut self, alloc: Global, actor: u32) -> (Entry, Reply)
+        ensures ok { IsQuietStep self.old actor Event.Stop result.0 result.1 self.new }
+        ensures endpoints { self.new.state.endpoints ≡ self.old.state.endpoints }
+    {
+        self.layers.words.stopped = true;
+        quiet(alloc, actor, Event::Stop, Reply::Done)
     }
 
     /// What the stack holds is what its state tells: the payloads have the octets of the packets that
@@ -185,8 +257,8 @@ fn spend_waiting<P: Payload>(home: &mut P::Home, entries: Vec<ArpEntry<P>>)
     }
 }
 
-/// The entry of an event that was made and answered so, and the answer.
-fn entry(actor: u32, event: Event<Octets>, made: Received, reply: Reply) -> (Entry, Reply)
+/// The entry of an event that was made, and its reply.
+fn entry(actor: u32, event: EventText, made: Received, reply: Reply) -> (Entry, Reply)
     ensures { result ≡ (record { actor = actor; event = event; short = made.short; posts = made.posts; frames = made.frames; reply = reply }, reply) }
 {
     let Received {
@@ -203,4 +275,11 @@ fn entry(actor: u32, event: Event<Octets>, made: Received, reply: Reply) -> (Ent
         reply,
     };
     (entry, reply)
+}
+
+/// The entry and the reply of an event for which no pool was short, and that posted and sent nothing.
+fn quiet(alloc: Global, actor: u32, event: EventText, reply: Reply) -> (Entry, Reply)
+    ensures { result ≡ (record { actor = actor; event = event; short = false; posts = []; frames = []; reply = reply }, reply) }
+{
+    entry(actor, event, nothing(alloc, false), reply)
 }

@@ -9,8 +9,8 @@ use Rattle.lw_events.specs.declared.event.Event.{Event}
 use Rattle.lw_events.specs.declared.event.Event.TheVariants.{Frame}
 use Rattle.lw_events.specs.declared.entry.Entry.{Entry}
 use Rattle.lw_core.specs.State.{State}
-use Rattle.lw_core.specs.Step.{Served, Fed, Ticked, Ended, Unserved, served, served_step, step}
-use Rattle.lw_core.specs.History.{IsReplay, IsServed, entry_of, granted, state_after}
+use Rattle.lw_core.specs.Step.{Served, Fed, Ticked, Answered, Ended, Unserved, served, served_step, step}
+use Rattle.lw_core.specs.History.{IsReplay, entry_of, granted, state_after}
 use Rattle.lw_events.specs.Events.{Grants, grants_of, had_place}
 use Rattle.lw_transcript.specs.declared.lines.CoreLine.{CoreLine}
 use Rattle.lw_rules.specs.Lines.{core_lines_from, frames_sent}
@@ -31,12 +31,13 @@ replay_entries s actor (octets ∷ frames) more h = (tt, refl, replay_entries (s
 served_granted : (s : State) (x : Served) → record { short = (served_step s x granted).short; places = map had_place (served_step s x granted).posts } ≡ granted
 served_granted s (Fed octets) = refl
 served_granted s Ticked = refl
+served_granted s (Answered a) = refl
 served_granted s Ended = refl
 served_granted s Unserved = refl
 
 -- the entry of an event that is granted all tells that it was
 pub entry_granted : (s : State) (actor : ℕ) (event : Event (List ℕ)) → grants_of (entry_of s actor event granted) ≡ granted
-entry_granted s actor event = served_granted s (served event)
+entry_granted s actor event = served_granted s (served s event)
 
 -- what an entry tells of its grants is that all was granted: no pool was short for it, and it posted nothing
 abbrev pub IsGranted : Entry → Type 0

@@ -11,7 +11,7 @@ use Rattle.lw_events.specs.declared.entry.Post.{Post}
 use Rattle.lw_events.specs.declared.entry.Entry.{Entry}
 use Rattle.lw_events.specs.Events.{Grants, grants_of, had_place}
 use Rattle.lw_core.specs.State.{State}
-use Rattle.lw_core.specs.Step.{Served, Fed, Ticked, Ended, Unserved, served, served_step, step}
+use Rattle.lw_core.specs.Step.{Served, Fed, Ticked, Answered, Ended, Unserved, served, served_step, step}
 use Rattle.lw_core.specs.History.{IsStep, entry_of, granted}
 use Rattle.lw_core.specs.Held.{RamIsShort}
 use Rattle.lw_rules.specs.Schedule.{Configuration, made}
@@ -42,13 +42,14 @@ posts_none : (s : State) (x : Served) (short : Bool) (places : List Bool) → (s
 posts_none s (Fed octets) true places = refl
 posts_none s (Fed octets) false places = refl
 posts_none s Ticked short places = refl
+posts_none s (Answered a) short places = refl
 posts_none s Ended short places = refl
 posts_none s Unserved short places = refl
 
 -- an entry for which no pool was short tells that all was granted
 tells_granted : (s : State) (actor : ℕ) (event : Event (List ℕ)) (entry : Entry) → entry ≡ entry_of s actor event (grants_of entry) → entry.short ≡ false → grants_of entry ≡ granted
 tells_granted s actor event entry is whole =
-    let none : entry.posts ≡ [] = ap (λ (e : Entry). e.posts) is ∙ posts_none s (served event) entry.short (map had_place entry.posts) in
+    let none : entry.posts ≡ [] = ap (λ (e : Entry). e.posts) is ∙ posts_none s (served s event) entry.short (map had_place entry.posts) in
     ap (λ (short : Bool). let g : Grants = record { short = short; places = map had_place entry.posts } in g) whole
     ∙ ap (λ (posts : List Post). let g : Grants = record { short = false; places = map had_place posts } in g) none
 

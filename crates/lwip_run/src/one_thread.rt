@@ -6,6 +6,7 @@ ghost use Rattle.lwip_run.specs.Plain.{NeverRefuses};
 use crate::lines::{all_calls, body};
 use crate::plain_api::PlainApi;
 use lw_base::FrameList;
+use lw_boxes::ListBoxes;
 use lw_core::Core;
 use lw_netif::Netif;
 use lw_payload::Payload;
@@ -26,8 +27,10 @@ pub fn serial<P: Payload<Home: Drop>>(
     requires short { All IsFrame frames }
     ensures { IfOk result (λ t. t ≡ serial_transcript script.now frames) }
 {
-    let core = Core::<P>::new(alloc, netif(script), script.profile.limits())?;
-    let mut api = PlainApi::new(alloc, core, home, frames);
+    let limits = script.profile.limits();
+    let core = Core::<P>::new(alloc, netif(script), limits)?;
+    let boxes = ListBoxes::new(alloc, limits.mailbox);
+    let mut api = PlainApi::new(alloc, core, boxes, home, frames);
     let mut progress = run_serial(alloc, &mut api, script)?;
     let done = progress.remove(0).done.into_vec();
     let calls = all_calls(alloc, script)?;

@@ -1,5 +1,7 @@
 ghost use Rattle.std.specs.Prelude.{◌≡◌, ◌+◌, ◌++◌, [], ◌∷◌, All, IfOk, IfSome, List, MatchOption, OnErr, length};
 ghost use Rattle.lw_payload.specs.Totals.{IsOwned, total};
+ghost use Rattle.lw_boxes.specs.Lists.{shelf_of};
+ghost use Rattle.lw_core.specs.Boxes.{AreBoxesOf};
 ghost use Rattle.lw_core.specs.Held.{held_by};
 ghost use Rattle.lw_rules.specs.Schedule.{made, named_from, turn};
 ghost use Rattle.lwip_run.specs.Plain.{FedAll, IsBody, NeverRefuses, TakesFrame};
@@ -8,6 +10,7 @@ use crate::history::History;
 use call_types::Outcome;
 use lw_actors::{Api, Step};
 use lw_base::{FrameList, Octets};
+use lw_boxes::ListBoxes;
 use lw_core::Core;
 use lw_events::Event;
 use lw_payload::{Kind, MakeFault, Payload};
@@ -18,10 +21,12 @@ use std::marker::Model;
 use std::vec::IntoIter;
 
 /// The calls of a script made directly on a core over payloads, on one thread. Contracts see it as a
-/// configuration of the serial schedule; what the core holds is of its Home.
+/// configuration of the serial schedule; what the core holds is of its Home, and the mailboxes are those
+/// of its connections.
 #[derive(Drop)]
 pub struct PlainApi<P: Payload<Home: Drop>> {
     core: Core<P>,
+    boxes: ListBoxes<P>,
     home: P::Home,
     left: IntoIter<Octets>,
     entries: History,
@@ -29,6 +34,8 @@ pub struct PlainApi<P: Payload<Home: Drop>> {
 
 impl<P: Payload<Home: Drop>> Model for PlainApi<P> {
     ghost use Rattle.std.specs.Vec.Iter.{into_iter_items};
+    ghost use Rattle.lw_boxes.specs.Lists.{shelf_of};
+    ghost use Rattle.lw_core.specs.Boxes.{AreBoxesOf};
     ghost use Rattle.lw_core.specs.Held.{held_by};
     ghost use Rattle.lw_rules.specs.Schedule.{Configuration};
     ghost use Rattle.lwip_run.specs.Plain.{IsAtHome};
@@ -37,19 +44,28 @@ impl<P: Payload<Home: Drop>> Model for PlainApi<P> {
 
     ghost view = { λ a. record { state = a.core.state; left = into_iter_items a.left; entries = a.entries } };
 
-    ghost invariant = { λ a. IsAtHome P.seen P.home_seen P.may_refuse a.home (held_by a.core) (into_iter_items a.left) };
+    ghost invariant = { λ a. IsAtHome P.seen P.home_seen P.may_refuse a.home (held_by a.core) (into_iter_items a.left) × AreBoxesOf a.core.state.endpoints.conns (shelf_of a.boxes) };
 }
 
 impl<P: Payload<Home: Drop>> PlainApi<P> {
-    /// A core that has made no event yet, its Home, and the frames that are to be fed to it.
-    pub fn new(alloc: Global, core: Core<P>, home: P::Home, frames: FrameList) -> PlainApi<P>
+    /// A core that has made no event yet, the mailboxes of its connections, its Home, and the frames that
+    /// are to be fed to it.
+    pub fn new(
+        alloc: Global,
+        core: Core<P>,
+        boxes: ListBoxes<P>,
+        home: P::Home,
+        frames: FrameList,
+    ) -> PlainApi<P>
         requires never { NeverRefuses P.home_seen P.may_refuse }
         requires held { held_by core ≡ [] }
+        requires boxes { AreBoxesOf core.state.endpoints.conns (shelf_of boxes) }
         requires short { All IsBody frames }
         ensures { result ≡ record { state = core.state; left = frames; entries = [] } }
     {
         PlainApi {
             core,
+            boxes,
             home,
             left: frames.into_vec().into_iter(),
             entries: History::new(alloc),
@@ -89,10 +105,14 @@ impl<P: Payload<Home: Drop>> PlainApi<P> {
         ensures { IfOk result (λ n. (self.new ≡ made self.old actor (Event.Frame octets.now ∷ [])) × (n ≡ length self.old.entries + 1)) }
     {
         let frame = made_frame(alloc, &mut self.home, octets)?;
-        let (entry, _) = match self
-            .core
-            .step(alloc, actor, Event::Frame(frame), &mut self.home)
-        {
+        let made = self.core.step(
+            alloc,
+            actor,
+            Event::Frame(frame),
+            &mut self.home,
+            &mut self.boxes,
+        );
+        let (entry, _) = match made {
             Ok(made) => made,
             Err((none, _)) => return Err(none),
         };
@@ -103,7 +123,10 @@ impl<P: Payload<Home: Drop>> PlainApi<P> {
     fn end(&mut self, alloc: Global, actor: u32) -> Result<u32, AllocError>
         ensures { IfOk result (λ n. (self.new ≡ made self.old actor (Event.Stop ∷ [])) × (n ≡ length self.old.entries + 1)) }
     {
-        let (entry, _) = match self.core.step(alloc, actor, Event::Stop, &mut self.home) {
+        let made = self
+            .core
+            .step(alloc, actor, Event::Stop, &mut self.home, &mut self.boxes);
+        let (entry, _) = match made {
             Ok(made) => made,
             Err((none, _)) => return Err(none),
         };

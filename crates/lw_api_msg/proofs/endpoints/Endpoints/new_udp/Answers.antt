@@ -4,7 +4,8 @@ use Rattle.lw_conn.specs.declared.connections.Connection.{Connection}
 use Rattle.lw_conn.specs.Connections.{connection, fresh, live_count}
 use Rattle.lw_udp.specs.declared.ends.UdpEnd.{UdpEnd}
 use Rattle.lw_udp.specs.Ends.{Table as UdpTable, end_of, removed}
-use Rattle.lw_api_msg.proofs.EndLaws.{both_added, made_and_removed, next_is, none_yet}
+use Rattle.lw_api_msg.proofs.EndLaws.{both_added, made_and_removed, none_yet}
+use Rattle.lw_api_msg.proofs.PlaceLaws.{next_is}
 use Rattle.lw_api_msg.proofs.endpoints.Endpoints.new_udp.Goals as goal
 
 pub invariant_of-self-in-Err : goal.invariant_of-self-in-Err
