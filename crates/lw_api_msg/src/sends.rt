@@ -1,4 +1,4 @@
-ghost use Rattle.std.specs.Prelude.{◌≡◌};
+ghost use Rattle.std.specs.Prelude.{◌≡◌, ◌≤◌, IfOk};
 ghost use Rattle.lw_udp.specs.Ends.{local_of};
 ghost use Rattle.lw_udp.specs.Ports.{free_port};
 ghost use Rattle.lw_api_msg.specs.Sends.{connected_peer, named_peer, peer_of, plan_to, port_of, send_plan, sent_by, source_by};
@@ -50,7 +50,8 @@ impl Endpoints {
         port: Port,
         len: usize,
     ) -> Result<SendPlan, Err>
-        ensures { result ≡ send_plan netif.now self.now conn ip port len }
+        ensures exact { result ≡ send_plan netif.now self.now conn ip port len }
+        ensures fits { IfOk result (λ _. len ≤ 65507) }
     {
         if self.conns.get(conn).is_none() {
             return Err(Err::Conn);
@@ -88,7 +89,8 @@ impl Endpoints {
         len: usize,
         peer: Result<(Ip, Port), Err>,
     ) -> Result<SendPlan, Err>
-        ensures { result ≡ plan_to netif.now self.now conn len peer }
+        ensures exact { result ≡ plan_to netif.now self.now conn len peer }
+        ensures fits { IfOk result (λ _. len ≤ 65507) }
     {
         let to = match peer {
             Ok(to) => to,

@@ -1,13 +1,11 @@
-use Rattle.std.proofs.Common.{◌≡◌, ℕ, ◌+◌, ◌<◌, ◌≤◌, ◌-◌, suc, Bool, true, false, not, cond, List, [], ◌∷◌, ◌++◌, length, get_or, set, take, drop, map, filter, Option, Some, None, refl, ap, sym, ◌∙◌, arith, All, option_to_list, append_assoc, drop-cons, length-append, ◌&&◌, ◌||◌, eqb, leb, option_and_then}
+use Rattle.std.proofs.Common.{◌≡◌, ℕ, ◌+◌, ◌<◌, ◌≤◌, ◌-◌, suc, true, false, List, [], ◌∷◌, ◌++◌, length, get_or, set, take, drop, Option, Some, None, refl, ap, sym, ◌∙◌, arith, All, option_to_list, append_assoc, drop-cons, length-append, option_and_then}
 use Rattle.std.specs.List.{remove, cons_option, slice_get}
-use Rattle.std.proofs.lemmas.Bool.Decides.{nat_tests}
 use Rattle.std.proofs.lemmas.List.{take-set, take-append-le, take_all, drop_at, drop-set-lt, take_more_set, length-set, length-take-le, get_or-set_same}
 use Rattle.std.proofs.lemmas.Option.{slice_get_read}
 use Rattle.std.proofs.lemmas.List.Edits.{length-remove}
 use Rattle.std.proofs.lemmas.List.Elements.{All-rest}
-use Rattle.lw_base.specs.declared.addresses.Ip.{Ip}
 use Rattle.lw_arp.specs.declared.entries.ArpEntry.{ArpEntry}
-use Rattle.lw_arp.specs.Neighbours.{is_stable, lifetime, older, is_over, asks_again, aged, asked_again, expired, packets}
+use Rattle.lw_arp.specs.Neighbours.{lifetime, older, is_over, aged, expired}
 
 -- in the course of a tick the entries before a place are done, and the rest is still to be done
 pub record Ticks {P : Type 0} (old now : List (ArpEntry P)) (place : ℕ) (gone_old gone : List P) (room_old room gone_room_old gone_room : ℕ) : Type 0 where
