@@ -16,8 +16,10 @@ use Rattle.lw_link.specs.Sound.{IsShort, IsSound, IsSoundWay}
 use Rattle.lw_link.specs.Way.{Link, Way, asks, knows}
 use Rattle.lw_link.proofs.ShortLaws.{asks_sound}
 use Rattle.lw_reass.specs.Datagrams.{Datagram, aged as fragments_aged, older as older_datagram}
+use Rattle.lw_reass.specs.Table.{Reassembly}
+use Rattle.lw_core.specs.declared.layers.Layers.{Layers}
 use Rattle.lw_core.specs.Input.{begun}
-use Rattle.lw_core.specs.Outcomes.{going}
+use Rattle.lw_core.specs.Outcomes.{counted}
 use Rattle.lw_core.specs.State.{State}
 use Rattle.lw_core.specs.Ticks.{FragmentsLaw, after_ticks, asks_all, older_by, tick_moved, tick_step, with_tick}
 use Rattle.lw_core.proofs.MoveLaws.{IsOwned-back, IsOwned-by, IsOwned-front, Moves-back, Moves-by, Moves-front}
@@ -70,6 +72,14 @@ state_ticked s table ds frames table_is ds_is frames_is =
     ap (λ (l : Link). record { limits = s.limits; link = l; fragments = ds; sent = s.sent ++ take (frames_left s.sent) frames; endpoints = s.endpoints; words = with_tick s.words }) link_is
     ∙ ap (λ (x : List Datagram). record { limits = s.limits; link = way.link; fragments = x; sent = s.sent ++ take (frames_left s.sent) frames; endpoints = s.endpoints; words = with_tick s.words }) ds_is
     ∙ ap (λ (out : List (List ℕ)). record { limits = s.limits; link = way.link; fragments = fragments_aged s.fragments; sent = s.sent ++ take (frames_left s.sent) out; endpoints = s.endpoints; words = with_tick s.words }) frames_is
+
+-- the layers once the tick is counted and the frames are sent
+pub ticked_layers : {P H : Type 0} (s counts after : Layers P H) (table : List (ArpEntry P)) (fragments : Reassembly P) (frames : List (List ℕ))
+    → counts ≡ record s { neighbours = table; fragments = fragments; words = record s.words { ticks = counted s.words.ticks } }
+    → after ≡ record counts { sent = counts.sent ++ take (frames_left counts.sent) frames }
+    → after ≡ record s { neighbours = table; fragments = fragments; sent = s.sent ++ take (frames_left s.sent) frames; words = record s.words { ticks = counted s.words.ticks } }
+ticked_layers {P} {H} s counts after table fragments frames counts_is sends =
+    sends ∙ ap (λ (x : Layers P H). record x { sent = x.sent ++ take (frames_left x.sent) frames }) counts_is
 
 -- What is held
 
