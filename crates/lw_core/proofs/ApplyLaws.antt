@@ -138,8 +138,7 @@ fragments_moved s frame Nothing = refl
 pub state_applied : (s : State) (octets : List ℕ) (plan : FramePlan) (table : List (ArpEntry (List ℕ))) (ds : List OpenDatagram) → IsPlanned s octets (arrival_of s.link.net octets) plan
     → table ≡ waiting_in (asked_for (link_with s.link plan.change).neighbours plan.link.asked.items) plan.link.waits
     → ds ≡ fragments_with s.fragments octets plan.change
-    → record {
-      limits = s.limits;
+    → record s {
       link = record { net = s.link.net; neighbours = table; next_id = plan.link.next_id };
       fragments = ds;
       sent = s.sent ++ take (frames_left s.sent) plan.link.frames.items;
@@ -155,9 +154,9 @@ state_applied s octets plan table ds planned table_is ds_is =
     ∙ ap (λ (w : Way). w.link) planned.sends.made in
     let fragments_is : ds ≡ m.fragments = ds_is ∙ ap (fragments_with s.fragments octets) planned.change ∙ fragments_moved s octets (arrival_of s.link.net octets) in
     let out_is : plan.link.frames.items ≡ way.out = ap (λ (w : Way). w.out) planned.sends.made in
-    ap (λ (l : Link). record { limits = s.limits; link = l; fragments = ds; sent = s.sent ++ take (frames_left s.sent) plan.link.frames.items; endpoints = s.endpoints; words = with_frame s.words }) link_is
-    ∙ ap (λ (x : List OpenDatagram). record { limits = s.limits; link = way.link; fragments = x; sent = s.sent ++ take (frames_left s.sent) plan.link.frames.items; endpoints = s.endpoints; words = with_frame s.words }) fragments_is
-    ∙ ap (λ (out : List (List ℕ)). record { limits = s.limits; link = way.link; fragments = m.fragments; sent = s.sent ++ take (frames_left s.sent) out; endpoints = s.endpoints; words = with_frame s.words }) out_is
+    ap (λ (l : Link). let x : State = record s { link = l; fragments = ds; sent = s.sent ++ take (frames_left s.sent) plan.link.frames.items; words = with_frame s.words } in x) link_is
+    ∙ ap (λ (gs : List OpenDatagram). let x : State = record s { link = way.link; fragments = gs; sent = s.sent ++ take (frames_left s.sent) plan.link.frames.items; words = with_frame s.words } in x) fragments_is
+    ∙ ap (λ (out : List (List ℕ)). let x : State = record s { link = way.link; fragments = m.fragments; sent = s.sent ++ take (frames_left s.sent) out; words = with_frame s.words } in x) out_is
 
 -- what the stack holds after it
 pub applied_moves : {P : Type 0} (seen : P → View) (h i j k : HomeView) (frame ram : P) (held table kept waits now after : List P)

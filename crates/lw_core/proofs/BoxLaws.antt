@@ -141,6 +141,9 @@ module _ {P : Type 0} where
   pub keep_self : (s : Shelf P) → KeepItems s s
   keep_self s = record { made = omega arith; old = λ n within. refl; empty = λ n new within. absurd (omega arith) }
 
+  pub keep_same : (before after : Shelf P) → after ≡ before → KeepItems before after
+  keep_same before after is = subst (KeepItems before) (sym is) (keep_self before)
+
   pub keep_made : (before after : Shelf P) (conn : ℕ) → conn ≤ before.made + 1 → IsMade before conn after → KeepItems before after
   keep_made before after conn next made =
       let now = made.made in

@@ -1,5 +1,5 @@
 -- What the answers to calls leave as it was, and the steps of events that bring no payload.
-use Rattle.std.proofs.Common.{◌≡◌, ℕ, ◌==◌, ◌∙◌, Bool, true, false, List, [], Option, Some, None, IfSome, Result, Ok, Err, length, refl, sym, ap, subst, if◌then◌else◌}
+use Rattle.std.proofs.Common.{◌≡◌, ℕ, ◌+◌, ◌==◌, ◌&&◌, ◌∙◌, nat_lt, is_some, Bool, true, false, List, [], Option, Some, None, IfSome, Result, Ok, Err, length, refl, sym, ap, subst, if◌then◌else◌}
 use Rattle.std.specs.Option.{option_map_or}
 use Rattle.std.proofs.lemmas.List.{length-set}
 use Rattle.lw_base.specs.declared.addresses.Ip.{Ip}
@@ -8,21 +8,23 @@ use Rattle.lw_base.specs.declared.errors.Err.TheVariants.{Conn as NoConn, Val}
 use Rattle.lw_base.specs.declared.limits.Limits.{Limits}
 use Rattle.lw_events.specs.declared.event.Event.{Event}
 use Rattle.lw_events.specs.declared.event.Event.TheVariants.{Frame, Tick, New, Bind, Connect, Listen, Write, SendTo, Recved, Shutdown, Close, GetError, GetAddr, NoDelay, OpenFd, SetFd, CloseFd, SetVar, Signal, Sent, Stop}
+use Rattle.lw_events.specs.declared.event.Proto.TheVariants.{Udp}
 use Rattle.lw_events.specs.declared.event.Handle.{Handle}
 use Rattle.lw_events.specs.declared.event.Handle.TheVariants.{Conn as OfConn, Fd as OfFd}
 use Rattle.lw_events.specs.declared.event.Reply.{Reply}
 use Rattle.lw_events.specs.declared.event.Reply.TheVariants.{Done, Conn as ConnReply}
 use Rattle.lw_events.specs.declared.entry.Entry.{Entry}
 use Rattle.lw_netif.specs.Route.{route_of}
-use Rattle.lw_udp.specs.Ends.{Socket, Table as UdpTable}
+use Rattle.lw_udp.specs.Ends.{Socket, Table as UdpTable, removed}
 use Rattle.lw_udp.specs.Ports.{bind as udp_bind, bound}
 use Rattle.lw_conn.specs.declared.connections.Connection.{Connection}
 use Rattle.lw_conn.specs.declared.variables.Variable.{Variable}
-use Rattle.lw_conn.specs.Connections.{connection, next_number}
+use Rattle.lw_conn.specs.Connections.{Connections, added, closed as without, connection, live_count, next_number}
 use Rattle.lw_conn.specs.declared.descriptors.Descriptor.{Descriptor}
 use Rattle.lw_conn.specs.Descriptors.{descriptor, lowest_free, set as fd_set, closed as fd_closed}
 use Rattle.lw_conn.specs.Variables.{put}
-use Rattle.lw_api_msg.specs.Endpoints.{Answer, Table, by_udp, connect_by, is_peer, is_udp, made, new_udp, opened_at, refused, setvar}
+use Rattle.lw_api_msg.specs.Endpoints.{Answer, Table, by_udp, close, connect_by, is_peer, is_udp, made, new_udp, opened_at, refused, setvar}
+use Rattle.lw_api_msg.proofs.PlaceLaws.{next_is}
 use Rattle.lw_core.specs.Calls.{call_answer, HasVariables, IsAsking}
 use Rattle.lw_core.specs.History.{granted, IsStep}
 use Rattle.lw_core.specs.State.{State}
@@ -102,9 +104,38 @@ asking_keeps limits s Stop asks = tt
 pub answer_keeps : (limits : Limits) (s : State) (event : Event (List ℕ)) (a : Answer) → IsAsking limits event → call_answer s event ≡ Some a → Keeps s.endpoints a
 answer_keeps limits s event a asks is = subst (λ (o : Option Answer). IfSome o (Keeps s.endpoints)) is (asking_keeps limits s event asks)
 
--- New, where a number is left and where none is
-pub made_with : (limits : Limits) (e t : Table) (reply : Reply) (o : Option ℕ) → next_number limits.live e.conns ≡ o → (reply, t) ≡ new_udp limits e → (reply, t) ≡ made e o
-made_with limits e t reply o next is = is ∙ ap (made e) next
+-- what New and Close keep
+made_vars : (e : Table) (o : Option ℕ) → (made e o).1.vars ≡ e.vars
+made_vars e None = refl
+made_vars e (Some conn) = refl
+
+pub new_vars : (limits : Limits) (e t : Table) (reply : Reply) → (reply, t) ≡ new_udp limits e → t.vars ≡ e.vars
+new_vars limits e t reply is = ap (λ (a : Answer). a.1.vars) is ∙ made_vars e (next_number limits.live e.conns)
+
+closed_vars : (e : Table) (conn : ℕ) (o : Option Connection)
+    → (option_map_or (λ (c : Connection). let a : Answer = (Done, record e { udp = removed e.udp conn; conns = without e.conns conn }) in a) o (refused e NoConn)).1.vars ≡ e.vars
+closed_vars e conn None = refl
+closed_vars e conn (Some c) = refl
+
+pub close_vars : (e t : Table) (conn : ℕ) (reply : Reply) → (reply, t) ≡ close e conn → t.vars ≡ e.vars
+close_vars e t conn reply is = ap (λ (a : Answer). a.1.vars) is ∙ closed_vars e conn (connection e.conns conn)
+
+-- the number of the next connection, and the connections with it
+pub number_is : (limits : Limits) (cs : Connections) (conn : ℕ) → Some conn ≡ next_number limits.live cs → conn ≡ length cs + 1
+number_is limits cs conn is = next_is (nat_lt (live_count cs) limits.live && nat_lt (length cs) 4096) cs conn (sym is)
+
+pub new_conns : (limits : Limits) (e t : Table) (reply : Reply) (conn : ℕ) → Some conn ≡ next_number limits.live e.conns → (reply, t) ≡ new_udp limits e → t.conns ≡ added e.conns Udp
+new_conns limits e t reply conn next is = ap (λ (a : Answer). a.1.conns) (is ∙ ap (made e) (sym next))
+
+-- the connections without one that was live
+live_answer : (o : Option Connection) (a d : Answer) → is_some o ≡ true → option_map_or (λ c. a) o d ≡ a
+live_answer (Some c) a d live = refl
+live_answer None a d live = absurd (let h = live in cc)
+
+pub close_conns : (e t : Table) (conn : ℕ) (reply : Reply) → is_some (connection e.conns conn) ≡ true → (reply, t) ≡ close e conn → t.conns ≡ without e.conns conn
+close_conns e t conn reply live is =
+    ap (λ (a : Answer). a.1.conns)
+    (is ∙ live_answer (connection e.conns conn) (Done, record e { udp = removed e.udp conn; conns = without e.conns conn }) (refused e NoConn) live)
 
 -- The steps of events that bring no payload
 

@@ -9,6 +9,7 @@ mod KeepLaws
 mod MoveLaws
 pub mod OwnLaws
 mod PlanLaws
+mod QuietLaws
 mod RequestLaws
 pub mod ShortFrames
 mod SoundLaws

@@ -27,6 +27,7 @@ use Rattle.lw_payload.specs.Views.{View}
 use Rattle.lw_runs.specs.Kept.{Stand}
 use Rattle.lw_core.specs.declared.arrival.Arrival.{Arrival}
 use Rattle.lw_core.specs.declared.arrival.Arrival.TheVariants.{Arp, Datagram, Nothing}
+use Rattle.lw_core.specs.Calls.{HasVariables}
 use Rattle.lw_core.specs.Arrivals.{arp_brings, arrival_of, data_brings, data_in, datagram_brings, frame_brings, header_in, is_taken}
 use Rattle.lw_core.specs.Datagrams.{is_accepted, is_fragment}
 use Rattle.lw_core.specs.declared.layers.Layers.{Layers}
@@ -150,13 +151,22 @@ granted_sound s octets false sound =
     let a = arrival_of s.link.net octets in
     ended_sound (moved s octets a).way (moved_sound s octets a (frame_brings_six s.link.net octets (eth_of octets)) sound)
 
--- and so does what receives one, or finds no memory for it
-pub received_sound : {A E : Type 0} (s t : State) (octets : List ℕ) (short : A → Bool) (B : E → Type 0) (r : Result A E) → IsSoundWay (begun s) → IfOk r (λ x. t ≡ (frame_granted s octets (short x)).state)
-    → ((e : E) → B e → t ≡ s) → IfErr r B → IsSoundWay (begun t)
-received_sound s t octets short B (Ok x) sound ok same err = subst (λ (y : State). IsSoundWay (begun y)) (sym ok) (granted_sound s octets (short x) sound)
-received_sound s t octets short B (Err e) sound ok same err = subst (λ (y : State). IsSoundWay (begun y)) (sym (same e err)) sound
+-- it leaves the connections with their ends and names
+pub granted_endpoints : (s : State) (octets : List ℕ) (short : Bool) → (frame_granted s octets short).state.endpoints ≡ s.endpoints
+granted_endpoints s octets true = refl
+granted_endpoints s octets false = refl
 
--- what makes ready for an event and then does it leaves the way out sound, where the step does; without memory nothing changed
-pub made_sound : {A E : Type 0} (s t u : State) (r : Result A E) → IsSoundWay (begun s) → IsSoundWay (begun u) → OnOk r (t ≡ u) → OnErr r (t ≡ s) → IsSoundWay (begun t)
-made_sound s t u (Ok x) before after ok err = subst (λ (y : State). IsSoundWay (begun y)) (sym ok) after
-made_sound s t u (Err e) before after ok err = subst (λ (y : State). IsSoundWay (begun y)) (sym err) before
+pub granted_variables : (s : State) (octets : List ℕ) (short : Bool) → HasVariables s → HasVariables (frame_granted s octets short).state
+granted_variables s octets true has = has
+granted_variables s octets false has = has
+
+-- what holds of a state, and of all that a frame may leave of it, holds of what receiving one leaves, or finding no memory for it
+pub received_by : {A E : Type 0} (Q : State → Type 0) (s t : State) (octets : List ℕ) (short : A → Bool) (B : E → Type 0) (r : Result A E) → Q s
+    → ((b : Bool) → Q (frame_granted s octets b).state) → IfOk r (λ x. t ≡ (frame_granted s octets (short x)).state) → ((e : E) → B e → t ≡ s) → IfErr r B → Q t
+received_by Q s t octets short B (Ok x) here each ok same err = subst Q (sym ok) (each (short x))
+received_by Q s t octets short B (Err e) here each ok same err = subst Q (sym (same e err)) here
+
+-- what holds of a state and of the next holds of what making an event leaves, or finding no memory for it
+pub made_by : {A E : Type 0} (Q : State → Type 0) (s t u : State) (r : Result A E) → Q s → Q u → OnOk r (t ≡ u) → OnErr r (t ≡ s) → Q t
+made_by Q s t u (Ok x) before after ok err = subst Q (sym ok) after
+made_by Q s t u (Err e) before after ok err = subst Q (sym err) before
