@@ -1,7 +1,8 @@
 -- What a tick does to the way out, to what is kept and to what is held.
-use Rattle.std.proofs.Common.{◌≡◌, ℕ, zero, suc, ◌+◌, ◌≤◌, ◌<◌, ◌++◌, ◌∙◌, Bool, true, false, not, cond, List, [], ◌∷◌, filter, map, nat_lt, take, append-nil, refl, sym, ap, subst, arith}
+use Rattle.std.proofs.Common.{◌≡◌, ℕ, zero, suc, ◌+◌, ◌≤◌, ◌<◌, ◌++◌, ◌∙◌, Bool, true, false, not, cond, List, [], ◌∷◌, filter, length, get_or, map, nat_lt, take, append-nil, refl, sym, ap, subst, arith}
 use Rattle.std.specs.List.{All, sum_by}
 use Rattle.std.proofs.lemmas.Bool.Decides.{nat_tests}
+use Rattle.std.proofs.lemmas.List.{take_more}
 use Rattle.std.proofs.lemmas.List.Elements.{All-cons, All-filter, All-head, All-map, All-nil, All-tail, All-weaker, filter_passes}
 use Rattle.lw_base.specs.declared.addresses.Ip.{Ip}
 use Rattle.lw_netif.specs.Frames.{frames_left}
@@ -30,6 +31,10 @@ use Rattle.lw_core.proofs.MoveLaws.{IsOwned-back, IsOwned-by, IsOwned-front, Mov
 pub asks_more : (w : Way) (ips : List Ip) (ip : Ip) → asks_all w (ips ++ ip ∷ []) ≡ asks (asks_all w ips) ip
 asks_more w [] ip = refl
 asks_more w (first ∷ ips) ip = asks_more (asks w first) ips ip
+
+-- the next of a list of addresses is asked for
+pub asks_next : (w : Way) (ips : List Ip) (i : ℕ) (d : Ip) → i < length ips → asks_all w (take (i + 1) ips) ≡ asks (asks_all w (take i ips)) (get_or ips i d)
+asks_next w ips i d within = ap (asks_all w) (take_more ips i d within) ∙ asks_more w (take i ips) (get_or ips i d)
 
 -- who asks learns nothing by it
 asks_link : (w : Way) (ips : List Ip) → (asks_all w ips).link ≡ w.link

@@ -40,7 +40,7 @@ abbrev pub IsServed : {P : Type 0} → Limits → Event P → Type 0
 IsServed limits (SetVar var handle) = var < limits.variables
 IsServed limits (Signal signal) = signal < 16
 IsServed limits (New Tcp) = ⊥
-IsServed limits (SendTo conn ip port data) = ⊥
+IsServed limits (SendTo conn ip port octets) = ⊥
 IsServed limits other = Unit {0}
 
 -- those of them that are answered at once, with nothing taken in, made, closed or ended

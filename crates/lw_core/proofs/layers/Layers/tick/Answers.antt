@@ -5,6 +5,7 @@ use Rattle.lw_arp.specs.Neighbours.{aged, map_entries, packets}
 use Rattle.lw_arp.proofs.MapLaws.{aged-map_entries, asked_again-map_entries}
 use Rattle.lw_link.specs.Way.{Way, knows}
 use Rattle.lw_reass.specs.Table.{all_kept}
+use Rattle.lw_core.specs.declared.layers.Layers.{Layers}
 use Rattle.lw_core.specs.Input.{begun}
 use Rattle.lw_core.specs.Layers.{held_in, state_of}
 use Rattle.lw_core.specs.State.{State}
@@ -39,7 +40,9 @@ returns-clause-frames g c =
     let frames_is : c.in_ok-frames.frames.items ≡ (tick_moved s).way.out =
     c.in_ok-frames.ensures way.link refl refl
     ∙ ap (λ (ips : List Ip). (asks_all way ips).out) (c.deref.ensures.value ∙ c.in_ok-asked.ensures ∙ sym (asked_again-map_entries f c.args.self.now.neighbours)) in
-    c.send.ensures.frames ∙ ap (take (frames_left s.sent)) frames_is
+    c.send.ensures.frames
+    ∙ ap (λ (l : Layers g.row.P.Denot _). take (frames_left l.sent) c.in_ok-frames.frames.items) c.count_tick.ensures
+    ∙ ap (take (frames_left s.sent)) frames_is
 
 pub returns-clause-moves : goal.returns-clause-moves
 returns-clause-moves g c =
