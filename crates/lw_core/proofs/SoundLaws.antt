@@ -1,5 +1,5 @@
 -- The way out stays sound over an event.
-use Rattle.std.proofs.Common.{◌≡◌, ℕ, ◌<◌, ◌^◌, ◌==◌, ◌&&◌, Bool, true, false, List, [], ◌∷◌, All, IfErr, IfOk, IfSome, OnErr, OnOk, Option, Some, None, Result, Ok, Err, arith, drop, length, map, nat_lt, subst, sym, if◌then◌else◌}
+use Rattle.std.proofs.Common.{◌≡◌, ℕ, ◌<◌, ◌^◌, ◌==◌, ◌&&◌, Bool, true, false, List, [], ◌∷◌, All, IfErr, IfOk, IfSome, Option, Some, None, Result, Ok, Err, arith, drop, length, map, nat_lt, subst, sym, if◌then◌else◌}
 use Rattle.std.specs.List.{AllZip, cons_option}
 use Rattle.std.specs.Option.{option_map}
 use Rattle.std.proofs.lemmas.List.{length-take}
@@ -165,8 +165,3 @@ pub received_by : {A E : Type 0} (Q : State → Type 0) (s t : State) (octets : 
     → ((b : Bool) → Q (frame_granted s octets b).state) → IfOk r (λ x. t ≡ (frame_granted s octets (short x)).state) → ((e : E) → B e → t ≡ s) → IfErr r B → Q t
 received_by Q s t octets short B (Ok x) here each ok same err = subst Q (sym ok) (each (short x))
 received_by Q s t octets short B (Err e) here each ok same err = subst Q (sym (same e err)) here
-
--- what holds of a state and of the next holds of what making an event leaves, or finding no memory for it
-pub made_by : {A E : Type 0} (Q : State → Type 0) (s t u : State) (r : Result A E) → Q s → Q u → OnOk r (t ≡ u) → OnErr r (t ≡ s) → Q t
-made_by Q s t u (Ok x) before after ok err = subst Q (sym ok) after
-made_by Q s t u (Err e) before after ok err = subst Q (sym err) before
