@@ -1,5 +1,5 @@
 -- The way out stays sound over an event.
-use Rattle.std.proofs.Common.{◌≡◌, ℕ, ◌<◌, ◌^◌, ◌==◌, ◌&&◌, Bool, true, false, List, [], ◌∷◌, All, IfErr, IfOk, IfSome, Option, Some, None, Result, Ok, Err, arith, drop, length, map, nat_lt, subst, sym, if◌then◌else◌}
+use Rattle.std.proofs.Common.{◌≡◌, ℕ, ◌<◌, ◌^◌, ◌==◌, ◌&&◌, Bool, true, false, List, [], ◌∷◌, All, IfErr, IfOk, IfSome, Option, Some, None, Result, Ok, Err, arith, drop, length, map, nat_lt, refl, subst, sym, if◌then◌else◌}
 use Rattle.std.specs.List.{AllZip, cons_option}
 use Rattle.std.specs.Option.{option_map}
 use Rattle.std.proofs.lemmas.List.{length-take}
