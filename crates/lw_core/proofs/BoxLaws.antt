@@ -46,8 +46,8 @@ module _ {P : Type 0} where
         fresh = λ n past within.
             ⊎_elim
             (λ (newer : before.made < n).
-                let own : n ≡ conn = omega (arith, now) in
-                subst (λ (m : ℕ). after.box m ≡ new_mailbox) (sym own) (made.fresh (omega (arith, own))))
+            let own : n ≡ conn = omega (arith, now) in
+            subst (λ (m : ℕ). after.box m ≡ new_mailbox) (sym own) (made.fresh (omega (arith, own))))
             (λ (older : n ≤ before.made). made.old n older ∙ are.fresh n past older)
             (cases_lt before.made n);
       }
@@ -68,19 +68,19 @@ module _ {P : Type 0} where
         live = λ n.
             ⊎_elim
             (λ (its : n ≡ conn).
-                subst (λ (m : ℕ). IfSome (connection (added cs Udp) m) (λ c. Shows (after.box m) c)) (sym its)
-                (subst (λ (o : Option Connection). IfSome o (λ c. Shows (after.box conn) c)) (sym here)
-                (record { posted = ap (λ (b : Mailbox P). b.posted) own; flags = ap (λ (b : Mailbox P). b.flags) own })))
+            subst (λ (m : ℕ). IfSome (connection (added cs Udp) m) (λ c. Shows (after.box m) c)) (sym its)
+            (subst (λ (o : Option Connection). IfSome o (λ c. Shows (after.box conn) c)) (sym here)
+            (record { posted = ap (λ (b : Mailbox P). b.posted) own; flags = ap (λ (b : Mailbox P). b.flags) own })))
             (λ (away : n ≢ conn).
-                subst (λ (o : Option Connection). IfSome o (λ c. Shows (after.box n) c)) (sym (elsewhere n away))
-                (subst (λ (b : Mailbox P). IfSome (connection cs n) (λ c. Shows b c)) (sym (other n away)) (are.live n)))
+            subst (λ (o : Option Connection). IfSome o (λ c. Shows (after.box n) c)) (sym (elsewhere n away))
+            (subst (λ (b : Mailbox P). IfSome (connection cs n) (λ c. Shows b c)) (sym (other n away)) (are.live n)))
             (cases_eq n conn);
         closed = λ n some within none.
             ⊎_elim
             (λ (its : n ≡ conn). absurd (let clash : Some (new_connection Udp) ≡ None = sym here ∙ sym (ap (connection (added cs Udp)) its) ∙ none in cc))
             (λ (away : n ≢ conn).
-                subst (λ (b : Mailbox P). is_set Closed b.flags ≡ true) (sym (other n away))
-                (are.closed n some (omega arith) (sym (elsewhere n away) ∙ none)))
+            subst (λ (b : Mailbox P). is_set Closed b.flags ≡ true) (sym (other n away))
+            (are.closed n some (omega arith) (sym (elsewhere n away) ∙ none)))
             (cases_eq n conn);
         fresh = λ n past within. other n (λ e. absurd (omega (arith, e))) ∙ are.fresh n (omega arith) (omega arith);
       }
@@ -101,18 +101,18 @@ module _ {P : Type 0} where
         live = λ n.
             ⊎_elim
             (λ (its : n ≡ conn).
-                subst (λ (o : Option Connection). IfSome o (λ c. Shows (after.box n) c)) (sym (ap (connection (without cs conn)) its ∙ less_here cs conn)) tt)
+            subst (λ (o : Option Connection). IfSome o (λ c. Shows (after.box n) c)) (sym (ap (connection (without cs conn)) its ∙ less_here cs conn)) tt)
             (λ (away : n ≢ conn).
-                subst (λ (o : Option Connection). IfSome o (λ c. Shows (after.box n) c)) (sym (elsewhere n away))
-                (subst (λ (b : Mailbox P). IfSome (connection cs n) (λ c. Shows b c)) (sym (other n away)) (are.live n)))
+            subst (λ (o : Option Connection). IfSome o (λ c. Shows (after.box n) c)) (sym (elsewhere n away))
+            (subst (λ (b : Mailbox P). IfSome (connection cs n) (λ c. Shows b c)) (sym (other n away)) (are.live n)))
             (cases_eq n conn);
         closed = λ n above below none.
             ⊎_elim
             (λ (its : n ≡ conn).
-                subst (λ (b : Mailbox P). is_set Closed b.flags ≡ true) (sym (ap after.box its ∙ set.set)) (closed_stands (before.box conn).flags))
+            subst (λ (b : Mailbox P). is_set Closed b.flags ≡ true) (sym (ap after.box its ∙ set.set)) (closed_stands (before.box conn).flags))
             (λ (away : n ≢ conn).
-                subst (λ (b : Mailbox P). is_set Closed b.flags ≡ true) (sym (other n away))
-                (are.closed n above (omega arith) (sym (elsewhere n away) ∙ none)))
+            subst (λ (b : Mailbox P). is_set Closed b.flags ≡ true) (sym (other n away))
+            (are.closed n above (omega arith) (sym (elsewhere n away) ∙ none)))
             (cases_eq n conn);
         fresh = λ n past there. other n (λ e. absurd (omega (arith, e))) ∙ are.fresh n (omega arith) (omega arith);
       }
@@ -122,9 +122,9 @@ module _ {P : Type 0} where
   no_box s none = record {
     made = omega arith;
     live = λ n. elim (n == 0) as (λ b. IfSome (if b then None else option_and_then (λ (o : Option Connection). o) (slice_get [] (n - 1))) (λ c. Shows (s.box n) c)) [
-        | true ↦ tt
-        | false ↦ tt
-      ];
+      | true ↦ tt
+      | false ↦ tt
+    ];
     closed = λ n some within is. absurd (omega arith);
     fresh = λ n past within. absurd (omega arith);
   }
@@ -163,7 +163,7 @@ module _ {P : Type 0} where
         old = λ n within.
             ⊎_elim
             (λ (its : n ≡ conn).
-                ap (λ (m : ℕ). (after.box m).kept) its ∙ ap (λ (b : Mailbox P). b.kept) set.set ∙ ap (λ (m : ℕ). (before.box m).kept) (sym its))
+            ap (λ (m : ℕ). (after.box m).kept) its ∙ ap (λ (b : Mailbox P). b.kept) set.set ∙ ap (λ (m : ℕ). (before.box m).kept) (sym its))
             (λ (away : n ≢ conn). ap (λ (b : Mailbox P). b.kept) (set.others.others n away))
             (cases_eq n conn);
         empty = λ n new within. absurd (omega arith);

@@ -52,6 +52,6 @@ module _ {P H : Type 0} (seen : P → View) where
   pub quiet_sound : (l m : Layers P H) → m ≡ record l { endpoints = m.endpoints } → length m.endpoints.vars ≡ length l.endpoints.vars
       → IsSoundWay (begun (state_of seen l)) × HasVariables (state_of seen l) → IsSoundWay (begun (state_of seen m)) × HasVariables (state_of seen m)
   quiet_sound l m rest many both = (
-      subst (λ (x : Layers P H). IsSoundWay (begun (state_of seen x))) (sym rest) both.0,
-      many ∙ both.1 ∙ sym (ap (λ (x : Layers P H). x.limits.variables) rest)
-    )
+    subst (λ (x : Layers P H). IsSoundWay (begun (state_of seen x))) (sym rest) both.0,
+    many ∙ both.1 ∙ sym (ap (λ (x : Layers P H). x.limits.variables) rest),
+  )

@@ -103,13 +103,13 @@ impl<P: Payload> Core<P> {
     {
         match request_of(event) {
             Request::Feed(frame) => self.frame(alloc, actor, frame, home),
-            Request::Tick => match self.tick(alloc, actor, home) {
-                Ok(made) => Ok(made),
-                Err(none) => Err((none, Event::Tick)),
-            },
             Request::Make => match self.make(alloc, actor, boxes) {
                 Ok(made) => Ok(made),
                 Err(none) => Err((none, Event::New(Proto::Udp))),
+            },
+            Request::Tick => match self.tick(alloc, actor, home) {
+                Ok(made) => Ok(made),
+                Err(none) => Err((none, Event::Tick)),
             },
             Request::Close(conn) => Ok(self.close(alloc, actor, conn, boxes)),
             Request::End => Ok(self.end(alloc, actor)),

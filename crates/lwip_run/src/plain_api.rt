@@ -105,14 +105,13 @@ impl<P: Payload<Home: Drop>> PlainApi<P> {
         ensures { IfOk result (λ n. (self.new ≡ made self.old actor (Event.Frame octets.now ∷ [])) × (n ≡ length self.old.entries + 1)) }
     {
         let frame = made_frame(alloc, &mut self.home, octets)?;
-        let made = self.core.step(
+        let (entry, _) = match self.core.step(
             alloc,
             actor,
             Event::Frame(frame),
             &mut self.home,
             &mut self.boxes,
-        );
-        let (entry, _) = match made {
+        ) {
             Ok(made) => made,
             Err((none, _)) => return Err(none),
         };
@@ -123,10 +122,13 @@ impl<P: Payload<Home: Drop>> PlainApi<P> {
     fn end(&mut self, alloc: Global, actor: u32) -> Result<u32, AllocError>
         ensures { IfOk result (λ n. (self.new ≡ made self.old actor (Event.Stop ∷ [])) × (n ≡ length self.old.entries + 1)) }
     {
-        let made = self
-            .core
-            .step(alloc, actor, Event::Stop, &mut self.home, &mut self.boxes);
-        let (entry, _) = match made {
+        let (entry, _) = match self.core.step(
+            alloc,
+            actor,
+            Event::Stop,
+            &mut self.home,
+            &mut self.boxes,
+        ) {
             Ok(made) => made,
             Err((none, _)) => return Err(none),
         };

@@ -15,10 +15,9 @@ pub invariant_of-self : goal.invariant_of-self
 invariant_of-self g c =
     let s : State = state_of g.P.Payload.seen c.self.inside.layers in
     let t : State = state_of g.P.Payload.seen c.receive.new.self in
-    let octets = c.as_slice.result.now in
-    (
+    let octets = c.as_slice.result.now in (
       received_by (λ u. IsSoundWay (begun u)) s t octets (λ r. r.short) _ c.receive.result c.self.invariant.0 (λ b. granted_sound s octets b c.self.invariant.0) c.receive.ensures.state
-      (λ e same. same.0.state) c.receive.ensures.err,
+          (λ e same. same.0.state) c.receive.ensures.err,
       received_by HasVariables s t octets (λ r. r.short) _ c.receive.result c.self.invariant.1 (λ b. granted_variables s octets b c.self.invariant.1) c.receive.ensures.state
-      (λ e same. same.0.state) c.receive.ensures.err
+          (λ e same. same.0.state) c.receive.ensures.err,
     )

@@ -6,7 +6,7 @@ pub invariant_of-self : goal.invariant_of-self
 invariant_of-self g c =
     let payload = g.P.Payload in
     (
-      same_home payload.seen payload.home_seen payload.may_refuse c.self.inside.home c.step-made.new.home c.self.inside.core c.step-made.new.self
+      same_home payload.seen payload.home_seen payload.may_refuse c.self.inside.home c.step.new.home c.self.inside.core c.step.new.self
       (into_iter_items c.self.inside.left) c.in-Err.ensures.err.1 c.in-Err.ensures.err.0 c.self.invariant.0,
-      c.step-made.ensures.boxes
+      c.step.ensures.boxes
     )

@@ -22,15 +22,15 @@ invariant_of-self-in-Err g c =
     made_home payload.seen payload.home_seen payload.may_refuse c.self.inside.home c.made_frame.new.home c.in_ok-frame.frame held left
     (c.in_ok-frame.ensures.owned held c.self.invariant.0.owned) c.self.invariant.0 in
     (
-      same_home payload.seen payload.home_seen payload.may_refuse c.made_frame.new.home c.step-made.new.home c.self.inside.core c.step-made.new.self
+      same_home payload.seen payload.home_seen payload.may_refuse c.made_frame.new.home c.step.new.home c.self.inside.core c.step.new.self
       left c.in-Err.ensures.err.1 c.in-Err.ensures.err.0 made,
-      c.step-made.ensures.boxes
+      c.step.ensures.boxes
     )
 
 pub invariant_of-self-2 : goal.invariant_of-self-2
 invariant_of-self-2 g c =
     let payload = g.P.Payload in
     let held = held_by c.self.inside.core in
-    (moved_home payload.seen payload.home_seen payload.may_refuse c.self.inside.home c.made_frame.new.home c.step-made.new.home held
-    (c.in_ok-frame.frame ∷ held) (held_by c.step-made.new.self) (into_iter_items c.self.inside.left)
-    (c.in_ok-frame.ensures.owned held c.self.invariant.0.owned) c.in-Ok.ensures.moves c.self.invariant.0, c.step-made.ensures.boxes)
+    (moved_home payload.seen payload.home_seen payload.may_refuse c.self.inside.home c.made_frame.new.home c.step.new.home held
+    (c.in_ok-frame.frame ∷ held) (held_by c.step.new.self) (into_iter_items c.self.inside.left)
+    (c.in_ok-frame.ensures.owned held c.self.invariant.0.owned) c.in-Ok.ensures.moves c.self.invariant.0, c.step.ensures.boxes)
