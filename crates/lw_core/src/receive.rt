@@ -82,10 +82,11 @@ impl<P: Payload> Layers<P> {
         ensures err { IfErr result (λ r. IsSameLayers P.seen self.old self.new × IsSameButRoom (P.seen frame) (P.seen r.1) × (P.home_seen home.new ≡ P.home_seen home.old)) }
     {
         match self.ready(alloc, home, &mut frame, octets) {
-            Ok(Some(Ready { plan, ram })) => {
-                let frames = self.apply(home, frame, plan, ram);
-                Ok(sent(alloc, frames))
-            }
+            Ok(Some(Ready { plan, ram })) => Ok(Received {
+                posts: PostList::from_vec(Vec::new(alloc)),
+                frames: self.apply(home, frame, plan, ram),
+                short: false,
+            }),
             Ok(None) => {
                 spend(home, frame);
                 self.count();
