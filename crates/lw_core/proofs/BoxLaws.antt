@@ -1,5 +1,5 @@
 -- The mailboxes of connections, as connections are made and closed.
-use Rattle.std.proofs.Common.{◌≡◌, ◌≢◌, ℕ, ◌+◌, ◌-◌, ◌≤◌, ◌<◌, ◌==◌, ◌∙◌, max, true, false, if◌then◌else◌, option_and_then, slice_get, List, [], ◌∷◌, ◌++◌, length, Option, Some, None, is_some, IfSome, bit_or, refl, sym, ap, subst, ⊎_elim, arith, length-append}
+use Rattle.std.proofs.Common.{◌≡◌, ◌≢◌, ℕ, ◌+◌, ◌-◌, ◌≤◌, ◌<◌, ◌==◌, ◌∙◌, true, false, if◌then◌else◌, option_and_then, slice_get, [], ◌∷◌, length, Option, Some, None, is_some, IfSome, bit_or, refl, sym, ap, subst, ⊎_elim, arith, length-append}
 use Rattle.std.specs.Int.{bit_at}
 use Rattle.std.proofs.lemmas.Bool.{cases_eq, cases_lt, eq-eqb}
 use Rattle.std.proofs.lemmas.List.{length-set}

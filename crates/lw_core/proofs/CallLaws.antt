@@ -1,5 +1,5 @@
 -- What the answers to calls leave as it was, and the steps of events that bring no payload.
-use Rattle.std.proofs.Common.{◌≡◌, ℕ, ◌+◌, ◌==◌, ◌&&◌, ◌∙◌, nat_lt, is_some, Bool, true, false, List, [], Option, Some, None, IfSome, Result, Ok, Err, length, refl, sym, ap, subst, if◌then◌else◌}
+use Rattle.std.proofs.Common.{◌≡◌, ℕ, ◌+◌, ◌&&◌, ◌∙◌, nat_lt, is_some, Bool, true, false, List, [], Option, Some, None, IfSome, Result, Ok, Err, length, refl, sym, ap, subst, if◌then◌else◌}
 use Rattle.std.specs.Option.{option_map_or}
 use Rattle.std.proofs.lemmas.List.{length-set}
 use Rattle.lw_base.specs.declared.addresses.Ip.{Ip}
@@ -25,7 +25,7 @@ use Rattle.lw_conn.specs.Descriptors.{descriptor, lowest_free, set as fd_set, cl
 use Rattle.lw_conn.specs.Variables.{put}
 use Rattle.lw_api_msg.specs.Endpoints.{Answer, Table, by_udp, close, connect_by, is_peer, is_udp, made, new_udp, opened_at, refused, setvar}
 use Rattle.lw_api_msg.proofs.PlaceLaws.{next_is}
-use Rattle.lw_core.specs.Calls.{call_answer, HasVariables, IsAsking}
+use Rattle.lw_core.specs.Calls.{call_answer, IsAsking}
 use Rattle.lw_core.specs.History.{granted, IsStep}
 use Rattle.lw_core.specs.State.{State}
 use Rattle.lw_core.specs.Outcomes.{Outcome}

@@ -1,5 +1,5 @@
 -- Layers over an event that brings no payload.
-use Rattle.std.proofs.Common.{◌≡◌, ℕ, ◌∙◌, true, false, List, length, Some, refl, sym, ap, subst}
+use Rattle.std.proofs.Common.{◌≡◌, ℕ, ◌∙◌, true, List, length, Some, refl, sym, ap, subst}
 use Rattle.lw_payload.specs.Views.{View}
 use Rattle.lw_events.specs.declared.event.Event.{Event}
 use Rattle.lw_events.specs.declared.event.Event.TheVariants.{Stop}
@@ -11,7 +11,6 @@ use Rattle.lw_link.specs.Sound.{IsSoundWay}
 use Rattle.lw_core.specs.declared.layers.Layers.{Layers}
 use Rattle.lw_core.specs.Calls.{call_answer, HasVariables}
 use Rattle.lw_core.specs.Held.{CoreSeen, IsQuietStep}
-use Rattle.lw_core.specs.History.{IsStep}
 use Rattle.lw_core.specs.Input.{begun}
 use Rattle.lw_core.specs.Layers.{state_of}
 use Rattle.lw_core.specs.State.{State}

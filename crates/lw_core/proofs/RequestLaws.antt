@@ -1,5 +1,5 @@
 -- Events that ask for an answer, and cores that are the same.
-use Rattle.std.proofs.Common.{◌≡◌, ℕ, ◌++◌, ◌∙◌, List, [], refl, sym, subst, flat_map}
+use Rattle.std.proofs.Common.{◌≡◌, ℕ, ◌++◌, List, [], refl, sym, subst, flat_map}
 use Rattle.lw_payload.specs.Views.{View, HomeView}
 use Rattle.lw_payload.specs.Totals.{total, Moves}
 use Rattle.lw_payload.proofs.TotalLaws.{IsSameTotal-self, Moves-same}

@@ -1,5 +1,4 @@
 -- What an event asks of a stack.
-use Rattle.std.specs.Prelude.{List, ℕ}
 use Rattle.lw_payload.specs.Views.{View}
 use Rattle.lw_events.specs.declared.event.Event.{Event}
 use Rattle.lw_events.specs.declared.event.Event.TheVariants.{Frame, Tick as TickEvent, New, Close as CloseEvent, Stop}

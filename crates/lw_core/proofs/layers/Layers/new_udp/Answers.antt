@@ -1,4 +1,4 @@
-use Rattle.std.proofs.Common.{◌≡◌, ◌+◌, ◌≤◌, ◌∙◌, sym, subst, length, arith}
+use Rattle.std.proofs.Common.{◌∙◌, sym, subst, arith}
 use Rattle.lw_base.specs.declared.event_word.Flag.TheVariants.{Writable}
 use Rattle.lw_conn.specs.Connections.{Connections}
 use Rattle.lw_core.specs.Boxes.{AreBoxesOf}

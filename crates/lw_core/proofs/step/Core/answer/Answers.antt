@@ -1,4 +1,4 @@
-use Rattle.std.proofs.Common.{◌≡◌, ◌∙◌, length, sym, ap, subst}
+use Rattle.std.proofs.Common.{◌∙◌, sym, ap, subst}
 use Rattle.lw_core.specs.Calls.{IsAsking}
 use Rattle.lw_core.specs.Held.{CoreSeen}
 use Rattle.lw_core.specs.Layers.{state_of}

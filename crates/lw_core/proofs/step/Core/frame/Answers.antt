@@ -1,4 +1,4 @@
-use Rattle.std.proofs.Common.{◌≡◌, List, flat_map, refl}
+use Rattle.std.proofs.Common.{List, flat_map, refl}
 use Rattle.lw_runs.proofs.Stands.{same-refl}
 use Rattle.lw_link.specs.Sound.{IsSoundWay}
 use Rattle.lw_core.specs.Calls.{HasVariables}

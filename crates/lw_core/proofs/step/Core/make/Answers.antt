@@ -1,4 +1,4 @@
-use Rattle.std.proofs.Common.{◌≡◌, Some, length, List, Option, sym, ap}
+use Rattle.std.proofs.Common.{Some, length, sym, ap}
 use Rattle.lw_events.specs.declared.event.Event.TheVariants.{New}
 use Rattle.lw_events.specs.declared.event.Proto.TheVariants.{Udp}
 use Rattle.lw_core.proofs.CallLaws.{new_vars}
