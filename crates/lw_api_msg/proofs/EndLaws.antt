@@ -6,7 +6,7 @@ use Rattle.lw_base.specs.declared.addresses.Port.{Port}
 use Rattle.lw_base.specs.declared.errors.Err.{Err as Code}
 use Rattle.lw_udp.specs.declared.ends.UdpEnd.{UdpEnd}
 use Rattle.lw_udp.specs.Ends.{Socket, Table as UdpTable, is_of, end_of, unbound, changed, with_local, with_remote, local_of}
-use Rattle.lw_udp.specs.Ports.{bind, bound_by, connect, with_port, with_peer, result_map, table_after, bind_port, free_port}
+use Rattle.lw_udp.specs.Ports.{bind, bound_by, connect, with_ephemeral, with_port, with_peer, result_map, table_after, bind_port, free_port}
 use Rattle.std.specs.Option.{option_map_or}
 use Rattle.lw_conn.specs.declared.connections.Connection.{Connection}
 use Rattle.lw_udp.specs.Ports.{answer_of}
@@ -92,6 +92,10 @@ any_ends u conn None None to n = refl
 
 pub connected_ends : (u : UdpTable) (conn : ℕ) (to : Socket) (n : ℕ) → is_some (end_of (table_after u (connect u conn to)).ends n) ≡ is_some (end_of u.ends n)
 connected_ends u conn to n = any_ends u conn (local_of u.ends conn) (free_port u) to n
+
+-- a datagram from a fresh port binds its connection
+pub ephemeral_ends : (u : UdpTable) (conn : ℕ) (port : Port) (n : ℕ) → is_some (end_of (with_ephemeral u conn port).ends n) ≡ is_some (end_of u.ends n)
+ephemeral_ends u conn port n = has_changed u.ends conn n (with_local (record { 0 = 0 }, port)) (λ e. refl)
 
 -- by both the same connections are there
 module _ {C : Type 0} where

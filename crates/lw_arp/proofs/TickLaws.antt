@@ -1,46 +1,30 @@
-use Rattle.std.proofs.Common.{◌≡◌, ℕ, ◌+◌, ◌<◌, ◌≤◌, ◌-◌, suc, Bool, true, false, not, cond, List, [], ◌∷◌, ◌++◌, length, get_or, set, take, drop, map, filter, Option, Some, None, refl, ap, sym, ◌∙◌, arith, All, option_to_list, append_assoc, drop-cons, length-append, ◌&&◌, ◌||◌, eqb, leb, option_and_then}
+use Rattle.std.proofs.Common.{◌≡◌, ℕ, ◌+◌, ◌<◌, ◌≤◌, ◌-◌, suc, true, false, List, [], ◌∷◌, ◌++◌, length, get_or, set, take, drop, Option, Some, None, refl, ap, sym, ◌∙◌, arith, All, option_to_list, append_assoc, drop-cons, length-append, option_and_then}
 use Rattle.std.specs.List.{remove, cons_option, slice_get}
-use Rattle.std.proofs.lemmas.Bool.Decides.{nat_tests}
 use Rattle.std.proofs.lemmas.List.{take-set, take-append-le, take_all, drop_at, drop-set-lt, take_more_set, length-set, length-take-le, get_or-set_same}
 use Rattle.std.proofs.lemmas.Option.{slice_get_read}
 use Rattle.std.proofs.lemmas.List.Edits.{length-remove}
 use Rattle.std.proofs.lemmas.List.Elements.{All-rest}
-use Rattle.lw_base.specs.declared.addresses.Ip.{Ip}
 use Rattle.lw_arp.specs.declared.entries.ArpEntry.{ArpEntry}
-use Rattle.lw_arp.specs.Neighbours.{is_stable, lifetime, older, is_over, asks_again, aged, asked_again, expired, packets}
+use Rattle.lw_arp.specs.Neighbours.{lifetime, older, is_over, aged, expired}
 
 -- in the course of a tick the entries before a place are done, and the rest is still to be done
-pub record Ticks {P : Type 0} (old now : List (ArpEntry P)) (place : ℕ) (asks_old asks : List Ip) (gone_old gone : List P) (room_old room asks_room_old asks_room gone_room_old gone_room : ℕ) : Type 0 where
+pub record Ticks {P : Type 0} (old now : List (ArpEntry P)) (place : ℕ) (gone_old gone : List P) (room_old room gone_room_old gone_room : ℕ) : Type 0 where
   pub within : place ≤ length now
   pub table : take place now ++ aged (drop place now) ≡ aged old
-  pub asked : asks ++ asked_again (drop place now) ≡ asks_old ++ asked_again old
   pub lost : gone ++ expired (drop place now) ≡ gone_old ++ expired old
   pub young : All (λ (e : ArpEntry P). e.age < lifetime e) (drop place now)
   pub more : room_old ≤ room
-  pub asks_more : asks_room_old ≤ asks_room
   pub gone_more : gone_room_old ≤ gone_room
-  pub asks_left : length asks + (length now - place) ≤ asks_room
   pub gone_left : length gone + (length now - place) ≤ gone_room
 
-over_parts : (s : Bool) (n : ℕ) → leb (cond s 1200 20) n ≡ true → (not s && (eqb n 4 || eqb n 8 || eqb n 12 || eqb n 16)) ≡ false
-over_parts true n over = refl
-over_parts false n over = grind (arith, nat_tests)
-
--- a request is never repeated for an entry whose time is over
 -- a packet that may be there, before others
 cons_option_append : {X : Type 0} (o : Option X) (xs : List X) → cons_option o xs ≡ option_to_list o ++ xs
 cons_option_append None xs = refl
 cons_option_append (Some x) xs = refl
 
-over_asks_not : {P : Type 0} (e : ArpEntry P) → is_over e ≡ true → asks_again e ≡ false
-over_asks_not e over = over_parts (is_stable e) e.age over
-
 -- what a tick does to the first entry, where its time is over
 aged_over : {P : Type 0} (x : ArpEntry P) (xs : List (ArpEntry P)) → is_over (older x) ≡ true → aged (x ∷ xs) ≡ aged xs
 aged_over x xs over = rw over refl
-
-asked_over : {P : Type 0} (x : ArpEntry P) (xs : List (ArpEntry P)) → is_over (older x) ≡ true → asked_again (x ∷ xs) ≡ asked_again xs
-asked_over x xs over = rw (over_asks_not (older x) over) refl
 
 expired_over : {P : Type 0} (x : ArpEntry P) (xs : List (ArpEntry P)) → is_over (older x) ≡ true → expired (x ∷ xs) ≡ option_to_list x.packet ++ expired xs
 expired_over x xs over = rw over (cons_option_append x.packet (expired xs))
@@ -48,12 +32,6 @@ expired_over x xs over = rw over (cons_option_append x.packet (expired xs))
 -- and where it isn't
 aged_alive : {P : Type 0} (x : ArpEntry P) (xs : List (ArpEntry P)) → is_over (older x) ≡ false → aged (x ∷ xs) ≡ older x ∷ aged xs
 aged_alive x xs alive = rw alive refl
-
-asked_alive : {P : Type 0} (x : ArpEntry P) (xs : List (ArpEntry P)) → asked_again (x ∷ xs) ≡ cond (asks_again (older x)) (x.ip ∷ []) [] ++ asked_again xs
-asked_alive x xs = elim (asks_again (older x)) as (λ b. map (λ (e : ArpEntry _). e.ip) (cond b (older x ∷ filter asks_again (map older xs)) (filter asks_again (map older xs))) ≡ cond b (x.ip ∷ []) [] ++ asked_again xs) [
-  | true ↦ refl
-  | false ↦ refl
-]
 
 expired_alive : {P : Type 0} (x : ArpEntry P) (xs : List (ArpEntry P)) → is_over (older x) ≡ false → expired (x ∷ xs) ≡ expired xs
 expired_alive x xs alive = rw alive refl
@@ -79,10 +57,6 @@ at_most_one : {X : Type 0} (o : Option X) → length (option_to_list o) ≤ 1
 at_most_one None = omega arith
 at_most_one (Some x) = omega arith
 
-at_most_one_of : {X : Type 0} (b : Bool) (x : X) → length (cond b (x ∷ []) []) ≤ 1
-at_most_one_of true x = omega arith
-at_most_one_of false x = omega arith
-
 -- the packet at a place where an entry was put
 pub packet_put : {P : Type 0} (now : List (ArpEntry P)) (i : ℕ) (y : ArpEntry P) → i < length now → option_and_then (λ (e : ArpEntry P). e.packet) (slice_get (set now i y) i) ≡ y.packet
 packet_put now i y within =
@@ -90,9 +64,9 @@ packet_put now i y within =
     rw (slice_get_read (set now i y) (length (set now i y)) i y refl (omega arith) (sym (get_or-set_same now i y y within))) refl
 
 -- the step of a tick at an entry whose time is over
-pub Ticks-removed : {P : Type 0} {old now : List (ArpEntry P)} {place : ℕ} {asks_old asks : List Ip} {gone_old gone : List P} {r s a b g h : ℕ} (x : ArpEntry P) (packet : Option P) (r' h' : ℕ) → Ticks old now place asks_old asks gone_old gone r s a b g h → place < length now → x ≡ get_or now place x → is_over (older x) ≡ true → packet ≡ x.packet → s ≤ r' → h ≤ h'
-    → Ticks old (remove (set now place (older x)) place) place asks_old asks gone_old (gone ++ option_to_list packet) r r' a b g h'
-Ticks-removed {P} {old} {now} {place} {asks_old} {asks} {gone_old} {gone} {r} {s} {a} {b} {g} {h} x packet r' h' t within read over given room gone_room =
+pub Ticks-removed : {P : Type 0} {old now : List (ArpEntry P)} {place : ℕ} {gone_old gone : List P} {r s g h : ℕ} (x : ArpEntry P) (packet : Option P) (r' h' : ℕ) → Ticks old now place gone_old gone r s g h → place < length now → x ≡ get_or now place x → is_over (older x) ≡ true → packet ≡ x.packet → s ≤ r' → h ≤ h'
+    → Ticks old (remove (set now place (older x)) place) place gone_old (gone ++ option_to_list packet) r r' g h'
+Ticks-removed {P} {old} {now} {place} {gone_old} {gone} {r} {s} {g} {h} x packet r' h' t within read over given room gone_room =
     let rest = drop (suc place) now in
     let split : drop place now ≡ x ∷ rest = drop-cons now place x within ∙ ap (λ e. e ∷ rest) (sym read) in
     let after = remove (set now place (older x)) place in
@@ -103,20 +77,17 @@ Ticks-removed {P} {old} {now} {place} {asks_old} {asks} {gone_old} {gone} {r} {s
     record {
       within = let w = t.within in omega arith;
       table = rw (front, back) (ap (λ l. take place now ++ l) (sym (aged_over x rest over) ∙ ap aged (sym split)) ∙ t.table);
-      asked = rw back (ap (λ l. asks ++ l) (sym (asked_over x rest over) ∙ ap asked_again (sym split)) ∙ t.asked);
       lost = rw (back, given) (append_assoc gone (option_to_list x.packet) (expired rest) ∙ ap (λ l. gone ++ l) (sym (expired_over x rest over) ∙ ap expired (sym split)) ∙ t.lost);
       young = rw back (All-rest (λ (e : ArpEntry P). e.age < lifetime e) x rest (drop place now) split t.young);
       more = let m = t.more in omega arith;
-      asks_more = t.asks_more;
       gone_more = let m = t.gone_more in omega arith;
-      asks_left = let m = t.asks_left in omega arith;
       gone_left = let m = t.gone_left in omega (arith, length-append gone (option_to_list packet));
     }
 
 -- and at one that stays
-pub Ticks-kept : {P : Type 0} {old now : List (ArpEntry P)} {place : ℕ} {asks_old asks : List Ip} {gone_old gone : List P} {r s a b g h : ℕ} (x : ArpEntry P) (asks' : List Ip) (b' : ℕ) → Ticks old now place asks_old asks gone_old gone r s a b g h → place < length now → x ≡ get_or now place x → is_over (older x) ≡ false → asks' ≡ asks ++ cond (asks_again (older x)) (x.ip ∷ []) [] → b ≤ b'
-    → Ticks old (set now place (older x)) (place + 1) asks_old asks' gone_old gone r s a b' g h
-Ticks-kept {P} {old} {now} {place} {asks_old} {asks} {gone_old} {gone} {r} {s} {a} {b} {g} {h} x asks' b' t within read alive asked asks_room =
+pub Ticks-kept : {P : Type 0} {old now : List (ArpEntry P)} {place : ℕ} {gone_old gone : List P} {r s g h : ℕ} (x : ArpEntry P) → Ticks old now place gone_old gone r s g h → place < length now → x ≡ get_or now place x → is_over (older x) ≡ false
+    → Ticks old (set now place (older x)) (place + 1) gone_old gone r s g h
+Ticks-kept {P} {old} {now} {place} {gone_old} {gone} {r} {s} {g} {h} x t within read alive =
     let rest = drop (suc place) now in
     let split : drop place now ≡ x ∷ rest = drop-cons now place x within ∙ ap (λ e. e ∷ rest) (sym read) in
     let after = set now place (older x) in
@@ -124,40 +95,13 @@ Ticks-kept {P} {old} {now} {place} {asks_old} {asks} {gone_old} {gone} {r} {s} {
     let front : take (place + 1) after ≡ take place now ++ older x ∷ [] = take_more_set now place (older x) within in
     let back : drop (place + 1) after ≡ rest = ap (λ n. drop n after) next ∙ drop-set-lt (suc place) now place (older x) (omega arith) in
     let long : length after ≡ length now = length-set now place (older x) in
-    let again = cond (asks_again (older x)) (x.ip ∷ []) [] in
-    let one = at_most_one_of (asks_again (older x)) x.ip in
-    let more = length-append asks again in
     record {
       within = omega arith;
       table = rw (front, back) (append_assoc (take place now) (older x ∷ []) (aged rest)
           ∙ ap (λ l. take place now ++ l) (sym (aged_alive x rest alive) ∙ ap aged (sym split)) ∙ t.table);
-      asked = rw (back, asked) (append_assoc asks again (asked_again rest)
-          ∙ ap (λ l. asks ++ l) (sym (asked_alive x rest) ∙ ap asked_again (sym split)) ∙ t.asked);
       lost = rw back (ap (λ l. gone ++ l) (sym (expired_alive x rest alive) ∙ ap expired (sym split)) ∙ t.lost);
       young = rw back (All-rest (λ (e : ArpEntry P). e.age < lifetime e) x rest (drop place now) split t.young);
       more = t.more;
-      asks_more = let m = t.asks_more in omega arith;
       gone_more = t.gone_more;
-      asks_left = let m = t.asks_left in rw asked (omega arith);
       gone_left = let m = t.gone_left in omega arith;
-    }
-
--- what is asked again for an entry that was read
-pub asked_of : {P : Type 0} (asks : List Ip) (e y : ArpEntry P) → e ≡ y → asks ++ cond (asks_again e) (e.ip ∷ []) [] ≡ asks ++ cond (asks_again y) (y.ip ∷ []) []
-asked_of asks e y same = ap (λ (e : ArpEntry _). asks ++ cond (asks_again e) (e.ip ∷ []) []) same
-
--- while a table is given up, the packets of the entries before are appended, and the rest is still to come
-pub record Finishes {P : Type 0} (old now : List (ArpEntry P)) (gone_old gone : List P) (room_old room : ℕ) : Type 0 where
-  pub lost : gone ++ packets now ≡ gone_old ++ packets old
-  pub more : room_old ≤ room
-  pub left : length gone + length now ≤ room
-
-pub Finishes-step : {P : Type 0} {old now : List (ArpEntry P)} {gone_old gone : List P} {r s : ℕ} (packet : Option P) (s' : ℕ) → Finishes old now gone_old gone r s → 0 < length now → packet ≡ option_and_then (λ (e : ArpEntry P). e.packet) (slice_get now 0) → s ≤ s' → Finishes old (remove now 0) gone_old (gone ++ option_to_list packet) r s'
-Finishes-step {now = []} packet s' f some given room = absurd (omega arith)
-Finishes-step {now = x ∷ xs} {gone = gone} packet s' f some given room =
-    let one = at_most_one packet in
-    record {
-      lost = rw given (append_assoc gone (option_to_list x.packet) (packets xs) ∙ ap (λ l. gone ++ l) (sym (cons_option_append x.packet (packets xs))) ∙ f.lost);
-      more = let m = f.more in omega arith;
-      left = let m = f.left in omega (arith, length-append gone (option_to_list packet));
     }

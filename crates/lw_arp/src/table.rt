@@ -3,7 +3,7 @@ ghost use Rattle.lw_arp.specs.Neighbours.{mac_of, waiting, state_of, entry_of, I
 
 use crate::entries::{LearnPlan, Lesson, key, pending, stable, state_by};
 use crate::places::{add, entry_of, place_of, take_packet};
-use crate::ticks::{put, tick};
+use crate::ticks::{asked_again, put, tick};
 use crate::{ArpEntry, EntryState, Next};
 use lw_base::{ArpPacket, Ip, Mac};
 pub use std::alloc::AllocError as NoMemory;
@@ -138,19 +138,22 @@ impl<P> ArpTable<P> {
         })
     }
 
-    /// Lets a tick pass. Appends the addresses to ask for again and the packets of the entries that are
-    /// removed.
-    pub fn age(&mut self, asks: &mut Vec<Ip>, gone: &mut Vec<P>)
-        requires asks_room { length asks.old.items + 10 ≤ vec_capacity asks.old }
-        requires gone_room { length gone.old.items + 10 ≤ vec_capacity gone.old }
+    /// The addresses that a tick asks for again, in the order of the table.
+    pub fn plan_age(&self, alloc: Global) -> Result<Vec<Ip>, NoMemory>
+        ensures { IfOk result (λ asked. asked.items ≡ asked_again self.now) }
+    {
+        asked_again(alloc, &self.entries)
+    }
+
+    /// Lets a tick pass. Appends the packets of the entries that are removed.
+    pub fn age(&mut self, gone: &mut Vec<P>)
+        requires { length gone.old.items + 10 ≤ vec_capacity gone.old }
         ensures table { self.new ≡ aged self.old }
-        ensures asks { asks.new.items ≡ asks.old.items ++ asked_again self.old }
         ensures gone { gone.new.items ≡ gone.old.items ++ expired self.old }
         ensures kept { WeighAlike (packets self.old ++ gone.old.items) (packets self.new ++ gone.new.items) }
-        ensures asks_room { vec_capacity asks.old ≤ vec_capacity asks.new }
-        ensures gone_room { vec_capacity gone.old ≤ vec_capacity gone.new }
+        ensures room { vec_capacity gone.old ≤ vec_capacity gone.new }
     {
-        tick(&mut self.entries, asks, gone);
+        tick(&mut self.entries, gone);
     }
 
     /// The entries of a table that is given up, in the order of their making.

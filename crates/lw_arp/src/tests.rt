@@ -17,12 +17,10 @@ fn of_two_packets_the_later_goes_out_with_the_answer(rt: HostRuntime) -> Result<
     let state = table.state_of(HOST);
     assert!(rt; matches!(state, crate::EntryState::Pending));
     assert_eq!(rt; table.hold(HOST, 2), Some(1));
-    let (mut asks, mut gone) = (
-        Vec::with_capacity(rt.alloc(), 10)?,
-        Vec::with_capacity(rt.alloc(), 10)?,
-    );
-    table.age(&mut asks, &mut gone);
-    assert_eq!(rt; (asks.len(), gone.len()), (0, 0));
+    let mut gone = Vec::with_capacity(rt.alloc(), 10)?;
+    let asked = table.plan_age(rt.alloc())?;
+    table.age(&mut gone);
+    assert_eq!(rt; (asked.len(), gone.len()), (0, 0));
     let keys = table.keys(rt.alloc())?;
     let pending = ArpEntry {
         ip: HOST,

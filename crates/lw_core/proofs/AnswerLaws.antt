@@ -27,7 +27,7 @@ use Rattle.lw_core.specs.Arrivals.{arrival_of, arp_brings, data_brings, data_in,
 use Rattle.lw_core.specs.Datagrams.{is_accepted, is_fragment}
 use Rattle.lw_core.specs.Input.{begun, ip_input, moved}
 use Rattle.lw_core.specs.Laws.{ArpLaw, AsksForUs, EchoLaw, IsForUs, ReachesUs}
-use Rattle.lw_core.specs.Step.{going}
+use Rattle.lw_core.specs.Outcomes.{going}
 use Rattle.lw_core.proofs.FrameLaws.{data_at, frame-brings, one_frame, taken}
 
 -- the first of a list is among the first n

@@ -30,7 +30,8 @@ use Rattle.lw_core.specs.Datagrams.{is_fragment}
 use Rattle.lw_core.specs.Input.{Moved, begun, by_added, ip_input, moved}
 use Rattle.lw_core.specs.Layers.{change_of, fragments_with, link_with, IsPlanned}
 use Rattle.lw_core.specs.State.{State}
-use Rattle.lw_core.specs.Step.{counted, frame_step, with_frame}
+use Rattle.lw_core.specs.Outcomes.{counted}
+use Rattle.lw_core.specs.Step.{frame_step, with_frame}
 use Rattle.lw_core.proofs.MoveLaws.{Moves-around, Moves-by, Moves-front, Moves-turned}
 
 -- What is planned
@@ -141,6 +142,7 @@ pub state_applied : (s : State) (octets : List ℕ) (plan : FramePlan) (table : 
       link = record { net = s.link.net; neighbours = table; next_id = plan.link.next_id };
       fragments = ds;
       sent = s.sent ++ take (frames_left s.sent) plan.link.frames.items;
+      endpoints = s.endpoints;
       words = with_frame s.words;
     } ≡ (frame_step s octets).state
 state_applied s octets plan table ds planned table_is ds_is =

@@ -28,7 +28,8 @@ use Rattle.lw_api_msg.proofs.PlaceLaws.{next_is}
 use Rattle.lw_core.specs.Calls.{call_answer, IsAsking}
 use Rattle.lw_core.specs.History.{granted, IsStep}
 use Rattle.lw_core.specs.State.{State}
-use Rattle.lw_core.specs.Step.{Answered, Outcome, Served, by_answer, served, served_step}
+use Rattle.lw_core.specs.Outcomes.{Outcome}
+use Rattle.lw_core.specs.Step.{Answered, Served, by_answer, served, served_step}
 
 -- What answers keep
 
@@ -141,6 +142,7 @@ close_conns e t conn reply live is =
 -- what becomes of an event that is answered
 pub answers : (s : State) (event : Event (List ℕ)) (a : Answer) → call_answer s event ≡ Some a → served s event ≡ Answered a
 answers s (Frame octets) a is = absurd (let h = is in cc)
+answers s Tick a is = absurd (let h = is in cc)
 answers s Stop a is = absurd (let h = is in cc)
 answers s other a is = ap by_answer is
 

@@ -13,4 +13,5 @@ mod QuietLaws
 mod RequestLaws
 pub mod ShortFrames
 mod SoundLaws
+mod TickLaws
 mod WaitLaws

@@ -5,7 +5,7 @@ use Rattle.lw_payload.specs.Totals.{total, Moves}
 use Rattle.lw_payload.proofs.TotalLaws.{IsSameTotal-self, Moves-same}
 use Rattle.lw_runs.proofs.Stands.{same-refl}
 use Rattle.lw_events.specs.declared.event.Event.{Event}
-use Rattle.lw_events.specs.declared.event.Event.TheVariants.{Frame, New, Close as CloseEvent, Stop}
+use Rattle.lw_events.specs.declared.event.Event.TheVariants.{Frame, Tick, New, Close as CloseEvent, Stop}
 use Rattle.lw_events.specs.declared.event.Proto.TheVariants.{Tcp, Udp}
 use Rattle.lw_events.specs.declared.event.Reply.{Reply}
 use Rattle.lw_events.specs.declared.entry.Entry.{Entry}
@@ -23,6 +23,7 @@ pub record HasText {P : Type 0} (seen : P → View) (event : Event P) (kept : Ev
 module _ {P : Type 0} (seen : P → View) where
   pub is_answer : (event : Event P) (text : Event (List ℕ)) → Answer text ≡ request_of seen event → HasText seen event text
   is_answer (Frame p) text is = absurd (let h = is in cc)
+  is_answer Tick text is = absurd (let h = is in cc)
   is_answer (New Udp) text is = absurd (let h = is in cc)
   is_answer (New Tcp) text is = record { text = let h = is in cc; none = refl }
   is_answer (CloseEvent conn) text is = absurd (let h = is in cc)

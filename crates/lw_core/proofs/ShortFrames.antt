@@ -10,9 +10,11 @@ use Rattle.lw_link.specs.Sound.{IsShort, IsSound, IsSoundWay}
 use Rattle.lw_core.specs.Arrivals.{arrival_of}
 use Rattle.lw_core.specs.Input.{begun, moved}
 use Rattle.lw_core.specs.State.{State, opening}
-use Rattle.lw_core.specs.Step.{Served, Fed, Answered, Ended, Unserved, served, served_step, step}
+use Rattle.lw_core.specs.Step.{Served, Fed, Ticked, Answered, Ended, Unserved, served, served_step, step}
+use Rattle.lw_core.specs.Ticks.{tick_moved}
 use Rattle.lw_core.specs.History.{granted}
-use Rattle.lw_core.proofs.SoundLaws.{frame_brings_six, granted_sound, moved_sound}
+use Rattle.lw_core.proofs.SoundLaws.{ended_sound, frame_brings_six, granted_sound, moved_sound}
+use Rattle.lw_core.proofs.TickLaws.{tick_sound}
 
 -- a state in which the way out is sound
 abbrev pub IsSoundState : State → Type 0
@@ -23,6 +25,7 @@ opening_sound net limits own = record { own = own; others = All-nil IsSound; fra
 
 served_sound : (s : State) (x : Served) → IsSoundState s → IsSoundState (served_step s x granted).state
 served_sound s (Fed octets) sound = granted_sound s octets false sound
+served_sound s Ticked sound = ended_sound (tick_moved s).way (tick_sound s sound)
 served_sound s (Answered a) sound = sound
 served_sound s Ended sound = sound
 served_sound s Unserved sound = sound
@@ -35,6 +38,7 @@ served_short s (Fed octets) sound =
     let a = arrival_of s.link.net octets in
     let m = moved s octets a in
     All-take IsShort (frames_left s.sent) m.way.out (moved_sound s octets a (frame_brings_six s.link.net octets (eth_of octets)) sound).frames
+served_short s Ticked sound = All-take IsShort (frames_left s.sent) (tick_moved s).way.out (tick_sound s sound).frames
 served_short s (Answered a) sound = All-nil IsShort
 served_short s Ended sound = All-nil IsShort
 served_short s Unserved sound = All-nil IsShort

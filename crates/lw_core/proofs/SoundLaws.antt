@@ -141,7 +141,7 @@ moved_sound s frame (Datagram h) six sound =
 moved_sound s frame Nothing six sound = sound
 
 -- the next event begins soundly
-ended_sound : (w : Way) → IsSoundWay w → IsSoundWay (record { link = w.link; out = [] })
+pub ended_sound : (w : Way) → IsSoundWay w → IsSoundWay (record { link = w.link; out = [] })
 ended_sound w sound = record { own = sound.own; others = sound.others; frames = All-nil IsShort }
 
 -- a frame leaves the way out sound, whether RAM was short for it or not

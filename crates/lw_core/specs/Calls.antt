@@ -41,12 +41,12 @@ IsServed limits (SetVar var handle) = var < limits.variables
 IsServed limits (Signal signal) = signal < 16
 IsServed limits (New Tcp) = ⊥
 IsServed limits (SendTo conn ip port octets) = ⊥
-IsServed limits Tick = ⊥
 IsServed limits other = Unit {0}
 
 -- those of them that are answered at once, with nothing taken in, made, closed or ended
 abbrev pub IsAsking : Limits → Event (List ℕ) → Type 0
 IsAsking limits (Frame octets) = ⊥
+IsAsking limits Tick = ⊥
 IsAsking limits (New proto) = ⊥
 IsAsking limits (Close conn) = ⊥
 IsAsking limits Stop = ⊥

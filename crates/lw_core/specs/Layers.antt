@@ -27,7 +27,7 @@ state_of seen s = record {
   fragments = s.fragments.datagrams;
   sent = s.sent;
   endpoints = s.endpoints;
-  words = record { frames = s.words.frames; stopped = s.words.stopped };
+  words = record { frames = s.words.frames; ticks = s.words.ticks; stopped = s.words.stopped };
 }
 
 -- the payloads that it holds: the packets that wait, and the fragments that are kept

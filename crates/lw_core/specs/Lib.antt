@@ -2,6 +2,8 @@ pub mod State
 pub mod Datagrams
 pub mod Arrivals
 pub mod Input
+pub mod Outcomes
+pub mod Ticks
 pub mod Calls
 pub mod Step
 pub mod History

@@ -6,9 +6,10 @@ use Rattle.lw_link.specs.Way.{Link}
 use Rattle.lw_reass.specs.Datagrams.{Datagram}
 use Rattle.lw_api_msg.specs.Endpoints.{Table as Endpoints, opening as opening_endpoints}
 
--- the words that a stack shows: how many frames came, and whether the run was stopped
+-- the words that a stack shows: how many frames came, how many ticks went by, and whether the run was stopped
 pub record Words : Type 0 where
   pub frames : ℕ
+  pub ticks : ℕ
   pub stopped : Bool
 
 -- the state of a stack: its limits; the link, with its address, what is known of its neighbours and the next identification; the
@@ -29,5 +30,5 @@ opening net limits = record {
   fragments = [];
   sent = [];
   endpoints = opening_endpoints limits;
-  words = record { frames = 0; stopped = false };
+  words = record { frames = 0; ticks = 0; stopped = false };
 }

@@ -1,37 +1,20 @@
 -- The serial step: what an event does to a state, its answer, what it posts and the frames that it sends.
-use Rattle.std.specs.Prelude.{ℕ, ◌+◌, ◌-◌, ◌^◌, ◌++◌, Bool, true, false, List, [], Option, Some, None, min, take}
-use Rattle.lw_netif.specs.Frames.{frames_left}
-use Rattle.lw_events.specs.declared.entry.Post.{Post}
+use Rattle.std.specs.Prelude.{ℕ, ◌++◌, Bool, true, false, List, [], Option, Some, None}
 use Rattle.lw_events.specs.declared.event.Event.{Event}
-use Rattle.lw_events.specs.declared.event.Event.TheVariants.{Frame, Stop}
-use Rattle.lw_events.specs.declared.event.Reply.{Reply}
+use Rattle.lw_events.specs.declared.event.Event.TheVariants.{Frame, Tick, Stop}
 use Rattle.lw_events.specs.declared.event.Reply.TheVariants.{Done}
 use Rattle.lw_events.specs.Events.{Grants}
 use Rattle.lw_api_msg.specs.Endpoints.{Answer}
 use Rattle.lw_core.specs.Arrivals.{arrival_of}
 use Rattle.lw_core.specs.Calls.{call_answer}
 use Rattle.lw_core.specs.Input.{Moved, moved}
+use Rattle.lw_core.specs.Outcomes.{Outcome, counted, going}
 use Rattle.lw_core.specs.State.{State, Words}
-
--- what a step leaves: the next state, the answer, whether a pool was short for it, the posts that were tried, and the frames sent
-pub record Outcome : Type 0 where
-  pub state : State
-  pub reply : Reply
-  pub short : Bool
-  pub posts : List Post
-  pub frames : List (List ℕ)
-
--- a count that stands still at its last value
-abbrev pub counted : ℕ → ℕ
-counted n = min (n + 1) (2 ^ 32 - 1)
+use Rattle.lw_core.specs.Ticks.{tick_step}
 
 -- one frame more came
 abbrev pub with_frame : Words → Words
 with_frame w = record w { frames = counted w.frames }
-
--- the frames that go out: once the count of frames sent stands at its last value, they are lost
-abbrev pub going : State → List (List ℕ) → List (List ℕ)
-going s frames = take (frames_left s.sent) frames
 
 -- a frame brought this: it is counted, what moved stays so, and what goes out is sent
 abbrev pub after_frame : State → Moved → Outcome
@@ -69,17 +52,19 @@ answered s a = record { state = record s { endpoints = a.1 }; reply = a.0; short
 -- what becomes of an event: a frame is taken in, a call is answered, the run ends; or the stack hasn't the event yet
 pub data Served : Type 0 where
   Fed : List ℕ → Served
+  Ticked : Served
   Answered : Answer → Served
   Ended : Served
   Unserved : Served
 
--- what becomes of an event that is neither a frame nor the end of the run
+-- what becomes of an event that is neither a frame nor a tick nor the end of the run
 abbrev pub by_answer : Option Answer → Served
 by_answer (Some a) = Answered a
 by_answer None = Unserved
 
 abbrev pub served : State → Event (List ℕ) → Served
 served s (Frame octets) = Fed octets
+served s Tick = Ticked
 served s Stop = Ended
 served s other = by_answer (call_answer s other)
 
@@ -90,6 +75,7 @@ unserved s = record { state = s; reply = Done; short = false; posts = []; frames
 -- the step of an event, by what becomes of it
 abbrev pub served_step : State → Served → Grants → Outcome
 served_step s (Fed octets) g = frame_granted s octets g.short
+served_step s Ticked g = tick_step s
 served_step s (Answered a) g = answered s a
 served_step s Ended g = stopped s
 served_step s Unserved g = unserved s

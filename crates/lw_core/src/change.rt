@@ -11,7 +11,8 @@ ghost use Rattle.lw_netif.specs.Frames.{frames_left};
 ghost use Rattle.lw_link.specs.Plans.{waiter};
 ghost use Rattle.lw_core.specs.Arrivals.{arrival_of, data_in, HoldsDatagram};
 ghost use Rattle.lw_core.specs.Layers.{change_of, fragments_with, held_in, link_with, state_of, HoldsChange, IsPlanned, IsRoomFor};
-ghost use Rattle.lw_core.specs.Step.{counted, frame_step};
+ghost use Rattle.lw_core.specs.Outcomes.{counted};
+ghost use Rattle.lw_core.specs.Step.{frame_step};
 
 use crate::arrival::ETH_LEN;
 use crate::layers::Layers;
@@ -81,7 +82,7 @@ impl<P: Payload> Layers<P> {
     }
 
     /// Sends frames, as many as may still be sent, and answers them.
-    fn send(&mut self, mut frames: Vec<Octets>) -> FrameList
+    pub fn send(&mut self, mut frames: Vec<Octets>) -> FrameList
         ensures frames { result ≡ take (frames_left self.old.sent) frames.items }
         ensures sent { self.new ≡ record self.old { sent = self.old.sent ++ take (frames_left self.old.sent) frames.items } }
     {

@@ -1,5 +1,6 @@
 //! Laws of the serial step, in the words of its subject.
 ghost use Rattle.lw_core.specs.Laws.{ArpLaw, EchoLaw};
+ghost use Rattle.lw_core.specs.Ticks.{FragmentsLaw};
 
 /// An ARP request for the own address is answered to its sender (RFC 826): the reply is the first frame
 /// that goes out.
@@ -11,4 +12,10 @@ pub fn arp_request_is_answered()
 /// with its identifier, its sequence number and its data (RFC 792).
 pub fn echo_request_is_answered()
     ensures { EchoLaw }
+{}
+
+/// A datagram that doesn't become whole is given up at the 60th tick after its first fragment came, and
+/// not before (RFC 791, section 3.2).
+pub fn fragments_end_at_sixty_ticks()
+    ensures { FragmentsLaw }
 {}

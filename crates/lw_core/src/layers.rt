@@ -6,10 +6,12 @@ use lw_netif::{Netif, Sent};
 use lw_payload::Payload;
 use lw_reass::Reass;
 
-/// The words that a stack shows: how many frames came, and whether the run was stopped.
+/// The words that a stack shows: how many frames came, how many ticks went by, and whether the run was
+/// stopped.
 #[derive(Clone, Copy, Debug, PartialEq, Eq)]
 pub struct Words {
     pub frames: u32,
+    pub ticks: u32,
     pub stopped: bool,
 }
 

@@ -12,7 +12,8 @@ mod plan;
 mod receive;
 mod request;
 mod step;
+mod tick;
 
-pub use laws::{arp_request_is_answered, echo_request_is_answered};
+pub use laws::{arp_request_is_answered, echo_request_is_answered, fragments_end_at_sixty_ticks};
 pub use std::alloc::AllocError as NoMemory;
 pub use step::Core;

@@ -49,6 +49,17 @@ pub fn nothing(alloc: Global, short: bool) -> Received
     }
 }
 
+/// Nothing was posted, and frames were sent.
+pub fn sent(alloc: Global, frames: FrameList) -> Received
+    ensures { result ≡ record { posts = []; frames = frames; short = false } }
+{
+    Received {
+        posts: PostList::from_vec(Vec::new(alloc)),
+        frames,
+        short: false,
+    }
+}
+
 impl<P: Payload> Layers<P> {
     /// Takes a frame with these octets in.
     pub fn receive(

@@ -6,11 +6,12 @@ ghost use Rattle.lw_core.specs.Requests.{request_of};
 use lw_events::{Event, EventText, Proto};
 use lw_payload::Payload;
 
-/// What an event asks of a stack: to take a frame in, to make a connection of UDP, to close one, to end
-/// the run, or an answer to the event, whose text this is.
+/// What an event asks of a stack: to take a frame in, to let a tick pass, to make a connection of UDP, to
+/// close one, to end the run, or an answer to the event, whose text this is.
 #[derive(Drop)]
 pub enum Request<P> {
     Feed(P),
+    Tick,
     Make,
     Close(u32),
     End,
@@ -23,11 +24,11 @@ pub fn request_of<P: Payload>(event: Event<P>) -> Request<P>
 {
     match event {
         Event::Frame(frame) => Request::Feed(frame),
+        Event::Tick => Request::Tick,
         Event::New(Proto::Udp) => Request::Make,
         Event::New(Proto::Tcp) => Request::Answer(Event::New(Proto::Tcp)),
         Event::Close(conn) => Request::Close(conn),
         Event::Stop => Request::End,
-        Event::Tick => Request::Answer(Event::Tick),
         Event::Bind(conn, ip, port) => Request::Answer(Event::Bind(conn, ip, port)),
         Event::Connect(conn, ip, port) => Request::Answer(Event::Connect(conn, ip, port)),
         Event::Listen(conn) => Request::Answer(Event::Listen(conn)),

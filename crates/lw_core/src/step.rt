@@ -17,7 +17,7 @@ ghost use Rattle.lw_core.specs.Requests.{request_of};
 
 use crate::NoMemory;
 use crate::layers::{Layers, Words};
-use crate::receive::{Received, nothing};
+use crate::receive::{Received, nothing, sent};
 use crate::request::{Request, request_of};
 use lw_api_msg::Endpoints;
 use lw_arp::{ArpEntry, ArpTable};
@@ -70,6 +70,7 @@ impl<P: Payload> Core<P> {
                 sent: Sent::new(),
                 words: Words {
                     frames: 0,
+                    ticks: 0,
                     stopped: false,
                 },
             },
@@ -106,6 +107,10 @@ impl<P: Payload> Core<P> {
                 Ok(made) => Ok(made),
                 Err(none) => Err((none, Event::New(Proto::Udp))),
             },
+            Request::Tick => match self.tick(alloc, actor, home) {
+                Ok(made) => Ok(made),
+                Err(none) => Err((none, Event::Tick)),
+            },
             Request::Close(conn) => Ok(self.close(alloc, actor, conn, boxes)),
             Request::End => Ok(self.end(alloc, actor)),
             Request::Answer(text) => Ok(self.answer(alloc, actor, text)),
@@ -138,6 +143,26 @@ impl<P: Payload> Core<P> {
             Ok(made) => Ok(entry(actor, Event::Frame(octets), made, Reply::Done)),
             Err((none, frame)) => Err((none, Event::Frame(frame))),
         }
+    }
+
+    // Lets a tick pass.
+    fn tick(
+        &mut self,
+        alloc: Global,
+        actor: u32,
+        home: &mut P::Home,
+    ) -> Result<(Entry, Reply), NoMemory>
+        requires owned { IsOwned (P.home_seen home.old) (total P.seen (P.home_seen home.old).pools.family (held_by self.old)) }
+        ensures ok { IfOk result (λ r. IsStep self.old.state actor Event.Tick r.0 r.1 self.new.state) }
+        ensures moves { OnOk result (Moves (P.home_seen home.old) (P.home_seen home.new) (total P.seen (P.home_seen home.old).pools.family (held_by self.old)) (total P.seen (P.home_seen home.old).pools.family (held_by self.new))) }
+        ensures short { IfOk result (λ r. r.0.short ≡ false) }
+        ensures err { OnErr result ((self.new ≡ self.old) × (P.home_seen home.new ≡ P.home_seen home.old)) }
+        ensures endpoints { self.new.state.endpoints ≡ self.old.state.endpoints }
+    {
+        let frames = self.layers.tick(alloc, home)?;
+        let made = sent(alloc, frames);
+        let reply = Reply::Ticks(self.layers.words.ticks);
+        Ok(entry(actor, Event::Tick, made, reply))
     }
 
     // Makes a connection of UDP.

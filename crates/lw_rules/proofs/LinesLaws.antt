@@ -9,7 +9,7 @@ use Rattle.lw_events.specs.declared.event.Event.{Event}
 use Rattle.lw_events.specs.declared.event.Event.TheVariants.{Frame}
 use Rattle.lw_events.specs.declared.entry.Entry.{Entry}
 use Rattle.lw_core.specs.State.{State}
-use Rattle.lw_core.specs.Step.{Served, Fed, Answered, Ended, Unserved, served, served_step, step}
+use Rattle.lw_core.specs.Step.{Served, Fed, Ticked, Answered, Ended, Unserved, served, served_step, step}
 use Rattle.lw_core.specs.History.{IsReplay, entry_of, granted, state_after}
 use Rattle.lw_events.specs.Events.{Grants, grants_of, had_place}
 use Rattle.lw_transcript.specs.declared.lines.CoreLine.{CoreLine}
@@ -30,6 +30,7 @@ replay_entries s actor (octets ∷ frames) more h = (tt, refl, replay_entries (s
 -- what is served tells that it was granted all
 served_granted : (s : State) (x : Served) → record { short = (served_step s x granted).short; places = map had_place (served_step s x granted).posts } ≡ granted
 served_granted s (Fed octets) = refl
+served_granted s Ticked = refl
 served_granted s (Answered a) = refl
 served_granted s Ended = refl
 served_granted s Unserved = refl

@@ -76,11 +76,15 @@ with_port t conn ip asked port =
 abbrev pub bind : Table → ℕ → Ip → Ip → Port → Result Table Code
 bind t conn own ip port = result_map (λ p. with_port t conn ip port p) (bind_port t conn own ip port)
 
+-- the table after an ephemeral port was given to a connection, at 0.0.0.0
+abbrev pub with_ephemeral : Table → ℕ → Port → Table
+with_ephemeral t conn port = with_port t conn (record { 0 = 0 }) (record { 0 = 0 }) port
+
 -- the table in which a connection is bound, for one that is bound and by the port that comes next: one that isn't is
 -- bound to 0.0.0.0 and that port, BUF where there is none
 abbrev pub bound_by : Table → ℕ → Option Socket → Option Port → Result Table Code
 bound_by t conn (Some local) port = Ok t
-bound_by t conn None (Some port) = Ok (with_port t conn (record { 0 = 0 }) (record { 0 = 0 }) port)
+bound_by t conn None (Some port) = Ok (with_ephemeral t conn port)
 bound_by t conn None None = Err Buf
 
 -- the table in which a connection is bound, or BUF

@@ -1,7 +1,7 @@
 ghost use Rattle.std.specs.Prelude.{◌≡◌, IfOk, IsErr, IsTrue, is_some, OnErr, OnOk};
 ghost use Rattle.lw_udp.specs.Ends.{Table, empty, end_of, local_of, remote_of, added, removed};
 ghost use Rattle.lw_udp.specs.Delivery.{best};
-ghost use Rattle.lw_udp.specs.Ports.{free_port, wanted, granted, bind_port, with_port, bind, bound, connect, answer_of, table_after};
+ghost use Rattle.lw_udp.specs.Ports.{free_port, wanted, granted, bind_port, with_port, with_ephemeral, bind, bound, connect, answer_of, table_after};
 
 use crate::UdpEnd;
 use crate::delivery::best;
@@ -100,6 +100,13 @@ impl UdpTable {
         }
     }
 
+    /// Binds a connection to 0.0.0.0 and an ephemeral port, which is the last one given then.
+    pub fn bind_ephemeral(&mut self, conn: u32, port: Port)
+        ensures { self.new ≡ with_ephemeral self.old conn port }
+    {
+        self.give(conn, Ip(0), Port(0), port);
+    }
+
     /// Connects a connection to a peer, also in place of another one. One that isn't bound is bound to
     /// 0.0.0.0 and the ephemeral port that comes next.
     pub fn connect(&mut self, conn: u32, to: (Ip, Port)) -> Result<(), Err>
@@ -124,7 +131,7 @@ impl UdpTable {
         match (self.local(conn), self.free_port()) {
             (Some(_), _) => Ok(()),
             (None, Some(port)) => {
-                self.give(conn, Ip(0), Port(0), port);
+                self.bind_ephemeral(conn, port);
                 Ok(())
             }
             (None, None) => Err(Err::Buf),

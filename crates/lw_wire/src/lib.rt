@@ -20,4 +20,4 @@ pub use fault::WireFault;
 pub use icmp::{icmp_octets, read_icmp, write_icmp};
 pub use ip::{ip_octets, read_ip, write_ip};
 pub use std::alloc::AllocError as NoMemory;
-pub use udp::{read_udp, write_udp};
+pub use udp::{read_udp, udp_octets, write_udp};

@@ -66,7 +66,6 @@ fn has_udp_sum(datagram: &[u8], src: Ip, dst: Ip, total: u16) -> bool
 
 /// Appends a datagram from `src` to `dst`: the head, with the sum over the pseudo head and the
 /// datagram, and the data behind it.
-#[tactic(auto, unfolding(crate::specs::Udp::udp_spelling))]
 pub fn write_udp(
     head: &UdpHead,
     src: Ip,
@@ -82,8 +81,17 @@ pub fn write_udp(
     ensures capacity { vec_capacity out.old ≤ vec_capacity out.new }
     ensures read_back { (padding : List ℕ) → OnOk result (ReadsUdp (drop (length out.old.items) out.new.items ++ padding) src dst head.now body.now) }
 {
-    let sum = udp_sum(head, src, dst, body);
-    append(&udp_with_sum(sum, *head), body, out)
+    append(&udp_octets(head, src, dst, body), body, out)
+}
+
+/// The octets of the head of a datagram from `src` to `dst`, with the sum over the pseudo head, the head
+/// and the data that is to stand behind it.
+pub fn udp_octets(head: &UdpHead, src: Ip, dst: Ip, body: &[u8]) -> [u8; 8]
+    requires { head.now.total ≡ 8 + length body.now }
+    ensures exact { result ++ body.now ≡ udp_spelling head.now src dst body.now }
+    ensures read_back { (padding : List ℕ) → ReadsUdp ((result ++ body.now) ++ padding) src dst head.now body.now }
+{
+    udp_with_sum(udp_sum(head, src, dst, body), *head)
 }
 
 #[tactic(auto, unfolding(crate::specs::Udp::udp_sum))]

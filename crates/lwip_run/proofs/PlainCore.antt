@@ -11,7 +11,7 @@ use Rattle.lw_events.specs.declared.entry.Post.{Post}
 use Rattle.lw_events.specs.declared.entry.Entry.{Entry}
 use Rattle.lw_events.specs.Events.{Grants, grants_of, had_place}
 use Rattle.lw_core.specs.State.{State}
-use Rattle.lw_core.specs.Step.{Served, Fed, Answered, Ended, Unserved, served, served_step, step}
+use Rattle.lw_core.specs.Step.{Served, Fed, Ticked, Answered, Ended, Unserved, served, served_step, step}
 use Rattle.lw_core.specs.History.{IsStep, entry_of, granted}
 use Rattle.lw_core.specs.Held.{RamIsShort}
 use Rattle.lw_rules.specs.Schedule.{Configuration, made}
@@ -41,6 +41,7 @@ rest_bodies None before after is short = All-same IsBody after before (sym is) s
 posts_none : (s : State) (x : Served) (short : Bool) (places : List Bool) → (served_step s x (record { short = short; places = places })).posts ≡ []
 posts_none s (Fed octets) true places = refl
 posts_none s (Fed octets) false places = refl
+posts_none s Ticked short places = refl
 posts_none s (Answered a) short places = refl
 posts_none s Ended short places = refl
 posts_none s Unserved short places = refl

@@ -1,7 +1,7 @@
 use Rattle.std.proofs.Common.{rules, ap, sym, ◌∙◌, ◌<◌, length, vec_capacity}
 use Rattle.std.proofs.lemmas.List.{get_or-set_same}
 use Rattle.lw_arp.specs.Neighbours.{older, is_over}
-use Rattle.lw_arp.proofs.TickLaws.{Ticks-removed, Ticks-kept, packet_put, asked_of}
+use Rattle.lw_arp.proofs.TickLaws.{Ticks-removed, Ticks-kept, packet_put}
 use Rattle.lw_arp.proofs.ticks.tick.Goals as goal
 
 pub loop-place-preserved-then-is_over : goal.loop-place-preserved-then-is_over
@@ -22,5 +22,4 @@ loop-place-preserved g c =
     let x = c.index_mut.result.now in
     let within : place < length now = search rules in
     let alive = ap is_over (sym (c.index.ensures ∙ get_or-set_same now place (older x) c.index.result.now within)) ∙ sym c.is_over.ensures ∙ c.if-is_over.false in
-    let asked = c.ask_again.ensures.items ∙ asked_of c.loop-place.asks.items c.index-else-is_over.result.now (older x) (c.index-else-is_over.ensures ∙ get_or-set_same now place (older x) c.index-else-is_over.result.now within) in
-    Ticks-kept x c.ask_again.new.asks.items (vec_capacity c.ask_again.new.asks) c.loop-place.invariant within c.index_mut.ensures.value alive asked (search rules)
+    Ticks-kept x c.loop-place.invariant within c.index_mut.ensures.value alive

@@ -5,6 +5,9 @@ use Rattle.lw_core.proofs.step.Core.step.Goals as goal
 pub returns-in-Err-clause-err : goal.returns-in-Err-clause-err
 returns-in-Err-clause-err g c = (same_core g.P.Payload.seen c.args.self.now c.make.new.self c.in-Err.ensures.err, refl)
 
+pub returns-in-Err-tick-clause-err : goal.returns-in-Err-tick-clause-err
+returns-in-Err-tick-clause-err g c = (same_core g.P.Payload.seen c.args.self.now c.tick.new.self c.in-Err-tick.ensures.err.0, c.in-Err-tick.ensures.err.1)
+
 pub returns-in-Answer-clause-ok : goal.returns-in-Answer-clause-ok
 returns-in-Answer-clause-ok g c =
     let has = is_answer g.P.Payload.seen c.args.event c.in-Answer.text c.in-Answer.ensures in
