@@ -122,13 +122,10 @@ impl<P: Payload<Home: Drop>> PlainApi<P> {
     fn end(&mut self, alloc: Global, actor: u32) -> Result<u32, AllocError>
         ensures { IfOk result (λ n. (self.new ≡ made self.old actor (Event.Stop ∷ [])) × (n ≡ length self.old.entries + 1)) }
     {
-        let (entry, _) = match self.core.step(
-            alloc,
-            actor,
-            Event::Stop,
-            &mut self.home,
-            &mut self.boxes,
-        ) {
+        let (entry, _) = match self
+            .core
+            .step(alloc, actor, Event::Stop, &mut self.home, &mut self.boxes)
+        {
             Ok(made) => made,
             Err((none, _)) => return Err(none),
         };

@@ -7,6 +7,8 @@ use Rattle.lwip_run.proofs.plain_api.PlainApi.new.Goals as goal
 
 pub invariant_of-result : goal.invariant_of-result
 invariant_of-result g c =
-    let payload = g.P.Payload in
-    (begins_home payload.seen payload.home_seen payload.may_refuse c.args.home (held_by c.args.core) (into_iter_items c.into_iter.result)
-    c.requires.never c.requires.held (subst (λ (frames : List (List ℕ)). All IsBody frames) (sym (c.into_iter.ensures.rest ∙ c.into_vec.ensures)) c.requires.short), c.requires.boxes)
+    let payload = g.P.Payload in (
+      begins_home payload.seen payload.home_seen payload.may_refuse c.args.home (held_by c.args.core) (into_iter_items c.into_iter.result)
+          c.requires.never c.requires.held (subst (λ (frames : List (List ℕ)). All IsBody frames) (sym (c.into_iter.ensures.rest ∙ c.into_vec.ensures)) c.requires.short),
+      c.requires.boxes,
+    )
