@@ -1,0 +1,25 @@
+/* lwIP's tcpip thread with callers that reach it by messages alone: no core lock. No assertions, and no protocol but IPv4. */
+#define NO_SYS 0
+#define SYS_LIGHTWEIGHT_PROT 1
+#define LWIP_TCPIP_CORE_LOCKING 0
+#define LWIP_NOASSERT 1
+#define LWIP_IPV4 1
+#define LWIP_IPV6 0
+#define LWIP_TCP 0
+#define LWIP_UDP 0
+#define LWIP_RAW 0
+#define LWIP_ICMP 0
+#define LWIP_ARP 0
+#define LWIP_NETCONN 1
+#define LWIP_SOCKET 0
+#define LWIP_STATS 0
+#define IP_REASSEMBLY 0
+#define IP_FRAG 0
+#define IP_FORWARD 0
+#define MEM_ALIGNMENT 8
+#define TCPIP_MBOX_SIZE 64
+#define DEFAULT_UDP_RECVMBOX_SIZE 8
+#define DEFAULT_TCP_RECVMBOX_SIZE 8
+#define DEFAULT_ACCEPTMBOX_SIZE 8
+#define DEFAULT_RAW_RECVMBOX_SIZE 8
+#define TCPIP_THREAD_STACKSIZE 1024
