@@ -15,8 +15,8 @@ pub returns : goal.returns
 returns g c =
     let core : c.in_ok-core.core.state ≡ opening c.args.script.now.net (limits_of c.args.script.now.profile) =
     c.in_ok-core.ensures.state
-    ∙ ap (λ (net : Net). opening net c.limits.result) c.netif.ensures
-    ∙ ap (λ (limits : Limits). opening c.args.script.now.net limits) c.limits.ensures in
+    ∙ ap (λ (net : Net). opening net c.limits-limits.result) c.netif.ensures
+    ∙ ap (λ (limits : Limits). opening c.args.script.now.net limits) c.limits-limits.ensures in
     let begins : c.new-api.result ≡ beginning c.args.script.now c.args.frames =
     c.new-api.ensures
     ∙ ap (λ (s : State). let begun : Configuration = record { state = s; left = c.args.frames; entries = [] } in begun) core in
