@@ -1,0 +1,15 @@
+pub mod FaultLaws
+pub mod GrammarLaws
+pub mod KindLaws
+pub mod LimitLaws
+pub mod LineLaws
+pub mod LinesTold
+pub mod MarkLaws
+pub mod PartOnce
+pub mod ReaderLaws
+pub mod Retold
+pub mod Scanning
+pub mod Scripts
+pub mod SizeLaws
+pub mod Sound
+pub mod StackLaws

@@ -1,0 +1,12 @@
+pub mod Filling
+pub mod Forms
+pub mod Grammar
+pub mod Kinds
+pub mod Limits
+pub mod Line
+pub mod Marks
+pub mod Parts
+pub mod Reading
+pub mod Spelling
+pub mod Told
+pub mod Whole
