@@ -14,7 +14,8 @@ use Rattle.lw_base.specs.EventWord.{is_set}
 use Rattle.lw_mbox.specs.declared.view.Got.{Got}
 use Rattle.lw_mbox.specs.declared.view.View.{View}
 use Rattle.lw_mbox.specs.Changes.{items, posted, is_on, Shows}
-use Rattle.lw_mbox.specs.History.{History, IsWord, Bounded, IsRight, times, PartedAt, GotAll}
+use Rattle.lw_mbox.specs.Trail.{Trail, saw}
+use Rattle.lw_mbox.specs.History.{History, IsWord, Bounded, Sound, IsRight, times, PartedAt, GotAll}
 use Rattle.lw_mbox.specs.Rule.{code_of, word_of, Found, Ring, Homes, Counts, Knows, Ruled}
 use Rattle.lw_mbox.specs.Plays.{seen, Loads}
 use Rattle.lw_mbox.proofs.Rows.{total_set, total_at, total_one}
@@ -127,13 +128,17 @@ module _ {T K : Type 0} (fits : K → T → Type 0) (key : K) where
       (moves s r id v w r.history r.flags r.posting s.words s.homes at (later_same r.history) r.counts r.ring mine (inr (refl, refl)) (λ m _ shown. shown) (λ j k u a b c d e. d)
       (λ n. ap (λ (g : List (Got T)). times n g + cond (ltb n r.history.claimed) 1 0) got) parts more (λ e. inl e))
 
+  -- a trail with the event word of today
+  pub sound_today : (h : History T) (t : Trail) (w : Word) → Today h w → Sound h t → Sound h (saw t w)
+  sound_today h t w d s = let st = s.stands in let f = first_shown h.changes w st.0 (stands_within h.changes t st.0 st.1) d.shown in record { stands = (f.0, (st.0, (st.1, f.1))); loads = (s.loads, d.bounded); notes = s.notes }
+
   -- what a seat knows after a load of the event word of today
   pub sees : (h : History T) (p : Bool) (cap : ℕ) (ws : List ℕ) (id : ℕ) (v : View T K) (w : Word) → v.lead ≡ false → Today h w → Knows key h p cap ws id v → Knows key h p cap ws id (seen w v)
-  sees h p cap ws id v w plain t k = let st = k.trail.stands in let f = first_shown h.changes w st.0 (stands_within h.changes v.trail.met st.0 st.1) t.shown in record {
+  sees h p cap ws id v w plain t k = record {
     keyed = k.keyed;
     leads = λ e. absurd (false≢true (sym plain ∙ e));
     marks = k.marks;
-    trail = record { stands = (f.0, (st.0, (st.1, f.1))); loads = (k.trail.loads, t.bounded); notes = k.trail.notes };
+    trail = sound_today h v.trail.met w t k.trail;
     back = k.back;
     got = k.got;
     partless = k.partless;

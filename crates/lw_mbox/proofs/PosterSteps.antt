@@ -10,18 +10,20 @@ use Rattle.std.proofs.lemmas.List.Elements.{All-push, All-contains}
 use Rattle.atomic_table.specs.Table.{State, Me, Step, step, rest, Act, keeps, takes, gives, stepped, homes_after, put_back, Allows, Splits, Joins, opening}
 use Rattle.lw_base.specs.declared.event_word.Flag.{Flag}
 use Rattle.lw_base.specs.declared.event_word.Flag.TheVariants.{Rest, Closed}
+use Rattle.lw_base.specs.declared.event_word.Word.{Word}
 use Rattle.lw_base.specs.EventWord.{is_set, bit_of}
 use Rattle.lw_mbox.specs.declared.view.Change.{Change}
 use Rattle.lw_mbox.specs.declared.view.Change.TheVariants.{Post, Set, Clear}
 use Rattle.lw_mbox.specs.declared.view.View.{View}
 use Rattle.lw_mbox.specs.Changes.{items, posted, is_on, is_same, flag_at, Shows}
-use Rattle.lw_mbox.specs.History.{History, IsWord}
+use Rattle.lw_mbox.specs.Trail.{saw}
+use Rattle.lw_mbox.specs.History.{History}
 use Rattle.lw_mbox.specs.Rule.{coded, word_of, Found, Ring, Homes, Lights, Counts, Knows, Ruled}
-use Rattle.lw_mbox.specs.Plays.{looked, taken, announced, sets_flag, clears_flag}
+use Rattle.lw_mbox.specs.Plays.{seen, looked, taken, announced, sets_flag, clears_flag}
 use Rattle.lw_mbox.proofs.EventWords.{or_coded, and_coded, or_narrow, and_narrow, set_flag, clear_flag, other_flag, bit_small, flag_at-bit}
 use Rattle.lw_mbox.proofs.Trails.{items-append, is_on-push, Later, sound_later, all_sound_later, all_right_later}
 use Rattle.lw_mbox.proofs.Rings.{ring_word, ring_takes, ring_posts, still_full}
-use Rattle.lw_mbox.proofs.Moves.{found_later, later_same, today, moves, quiet}
+use Rattle.lw_mbox.proofs.Moves.{found_later, later_same, today, sound_today, loads_today, moves, quiet}
 
 module _ {T : Type 0} where
   -- the item in the slot that was taken last
@@ -142,9 +144,9 @@ module _ {T K : Type 0} (fits : K → T → Type 0) (key : K) where
   -- the Poster's change of a flag, which makes of the event word m
   turns_flag : (s : State (Option T) (View T K)) (r : Rule s) (id : ℕ) (v : View T K) (c : Change T) (flags' m : ℕ) → v.lead ≡ true → get_elem? s.views id ≡ some v → items (c ∷ []) ≡ []
       → m ≡ coded (posted r.history.changes) r.history.claimed flags' → flags' < 2 ^ 8 → Lights (r.history.changes ++ c ∷ []) flags' → (is_on Closed r.history.changes ≡ true → is_on Closed (r.history.changes ++ c ∷ []) ≡ true)
-      → is_set Rest flags' ≡ is_set Rest r.flags → Rule record { words = set s.words 0 m; homes = s.homes; views = set s.views id (record v { changes = v.changes ++ c ∷ [] }) }
+      → is_set Rest flags' ≡ is_set Rest r.flags → Rule record { words = set s.words 0 m; homes = s.homes; views = set s.views id (record (seen (word_of (get_or s.words 0 0)) v) { changes = v.changes ++ c ∷ [] }) }
   turns_flag s r id v c flags' m leads at none_new event narrow lights stays rest_same = let h : History T = r.history in let k = r.each id v at in let l = k.leads leads in let cap : ℕ = r.cap in let xs : List T = items h.changes in
-      let cs' : List (Change T) = h.changes ++ c ∷ [] in let h' : History T = record { changes = cs'; claimed = h.claimed; fetched = h.fetched; rested = h.rested } in let w : View T K = record v { changes = v.changes ++ c ∷ [] } in
+      let cs' : List (Change T) = h.changes ++ c ∷ [] in let h' : History T = record { changes = cs'; claimed = h.claimed; fetched = h.fetched; rested = h.rested } in let found : Word = word_of (get_or s.words 0 0) in let w : View T K = record (seen found v) { changes = v.changes ++ c ∷ [] } in
       let its : items cs' ≡ xs = no_more h.changes c none_new in let long : posted cs' ≡ length xs = ap length its in let counts = r.counts in let few = counts.few in let below = counts.claims in let wide = r.ring.wide in let ws' : List ℕ = set s.words 0 m in
       let later : Later h h' = record { more = c ∷ []; grown = refl; claims = omega arith; fetches = omega arith; shut = λ e. (stays e, long, refl); rests = λ e. e } in
       let counts' : Counts (fits key) h' flags' ws' = record {
@@ -164,7 +166,7 @@ module _ {T K : Type 0} (fits : K → T → Type 0) (key : K) where
         keyed = k.keyed;
         leads = λ _. (l.0, ap (λ (cs : List (Change T)). cs ++ c ∷ []) l.1, l.2);
         marks = λ e. found_later (posted h.changes) (posted cs') cap s.words ws' v.marks (omega arith) kept (k.marks e);
-        trail = sound_later h h' later v.trail.met k.trail;
+        trail = sound_later h h' later (saw v.trail.met found) (sound_today fits key h v.trail.met found (today (fits key) h r.flags s.words counts) k.trail);
         back = all_sound_later h h' later v.back k.back;
         got = all_right_later h h' later v.got k.got;
         partless = k.partless;
@@ -172,8 +174,8 @@ module _ {T K : Type 0} (fits : K → T → Type 0) (key : K) where
       } in
       moves fits key s r id v w h' flags' r.posting ws' s.homes at later counts' ring' mine (inl leads) kept (λ a b u _ _ _ shown _. get_or-set_other s.words 0 (1 + b % cap) m 0 (λ e. omega arith) ∙ shown) (λ _. refl) refl (omega arith) (λ e. inl e)
 
-  shows_mine : (s : State (Option T) (View T K)) (r : Rule s) (id : ℕ) (v : View T K) → v.lead ≡ true → get_elem? s.views id ≡ some v → IsWord (word_of (get_or s.words 0 0)) × Shows v.changes (word_of (get_or s.words 0 0))
-  shows_mine s r id v leads at = let t = today (fits key) r.history r.flags s.words r.counts in (t.word, subst (λ (cs : List (Change T)). Shows cs (word_of (get_or s.words 0 0))) (sym ((r.each id v at).leads leads).1) t.shown)
+  shows_mine : (s : State (Option T) (View T K)) (r : Rule s) (id : ℕ) (v : View T K) → v.lead ≡ true → get_elem? s.views id ≡ some v → Shows v.changes (word_of (get_or s.words 0 0))
+  shows_mine s r id v leads at = let t = today (fits key) r.history r.flags s.words r.counts in subst (λ (cs : List (Change T)). Shows cs (word_of (get_or s.words 0 0))) (sym ((r.each id v at).leads leads).1) t.shown
 
   on_stays : (b : Bool) (a : Bool) → a ≡ true → cond b true a ≡ true
   on_stays true a e = refl
@@ -182,28 +184,28 @@ module _ {T K : Type 0} (fits : K → T → Type 0) (key : K) where
   pub sets : (slots id : ℕ) (me : M) (g : Flag) (b : ℕ) → me.0.lead ≡ true → g ≢ Rest → b ≡ bit_of g → Allows Rule slots id me 0 (λ n. bit_or n b) (sets_flag (step slots 0 b 0 none) me)
   sets slots id me g b leads ne is = subst (λ (z : ℕ). Allows Rule slots id me 0 (λ n. bit_or n z) (sets_flag (step slots 0 z 0 none) me)) (sym is) (λ s r deep at _. let v : View T K = me.0 in let cs : List (Change T) = r.history.changes in let counts = r.counts in
       let small = bit_small g in let flags' : ℕ = bit_or r.flags (bit_of g) in let m : ℕ = bit_or (get_or s.words 0 0) (bit_of g) in (
-        record v { changes = v.changes ++ Set g ∷ [] },
+        record (seen (word_of (get_or s.words 0 0)) v) { changes = v.changes ++ Set g ∷ [] },
         keeps,
         tt,
         turns_flag s r id v (Set g) flags' m leads at refl (ap (λ (z : ℕ). bit_or z (bit_of g)) counts.event ∙ or_coded (posted cs) r.history.claimed r.flags (bit_of g) counts.narrow small.1) (or_narrow r.flags (bit_of g) counts.narrow small.1)
             (λ f nf. set_flag f g r.flags ∙ (ap (cond (is_same f g) true) (counts.lights f nf) ∙ sym (is_on-push f cs (Set g))))
             (λ e. is_on-push Closed cs (Set g) ∙ on_stays (is_same Closed g) (is_on Closed cs) e)
             (set_flag Rest g r.flags ∙ ap (λ (b : Bool). cond b true (is_set Rest r.flags)) (other_flag Rest g (λ e. ne (sym e)))),
-        (ap (λ (f : Flag). let u : View T K = record v { changes = v.changes ++ Set f ∷ [] } in u) (sym (flag_at-bit g)), refl, (shows_mine s r id v leads at).0, (shows_mine s r id v leads at).1),
+        (ap (λ (f : Flag). let u : View T K = record (seen (word_of (get_or s.words 0 0)) v) { changes = v.changes ++ Set f ∷ [] } in u) (sym (flag_at-bit g)), refl, loads_today fits key s r id v at, shows_mine s r id v leads at),
       ))
 
   pub clears : (slots id : ℕ) (me : M) (g : Flag) (mask : ℕ) → me.0.lead ≡ true → g ≢ Rest → g ≢ Closed → mask ≡ 18446744073709551615 - bit_of g → Allows Rule slots id me 0 (λ n. bit_and n mask) (clears_flag (step slots 0 mask 0 none) me)
   clears slots id me g mask leads ne open_still is = subst (λ (z : ℕ). Allows Rule slots id me 0 (λ n. bit_and n z) (clears_flag (step slots 0 z 0 none) me)) (sym is) (λ s r deep at _. let v : View T K = me.0 in let cs : List (Change T) = r.history.changes in let counts = r.counts in
       let small = bit_small g in let small₁ = small.1 in let few = counts.few in let below = counts.claims in let flags' : ℕ = bit_and r.flags (255 - bit_of g) in let m : ℕ = bit_and (get_or s.words 0 0) (18446744073709551615 - bit_of g) in
       let back : 18446744073709551615 - (18446744073709551615 - bit_of g) ≡ bit_of g = omega arith in (
-        record v { changes = v.changes ++ Clear g ∷ [] },
+        record (seen (word_of (get_or s.words 0 0)) v) { changes = v.changes ++ Clear g ∷ [] },
         keeps,
         tt,
         turns_flag s r id v (Clear g) flags' m leads at refl (ap (λ (z : ℕ). bit_and z (18446744073709551615 - bit_of g)) counts.event ∙ and_coded (posted cs) r.history.claimed r.flags (bit_of g) few (omega arith) counts.narrow small.1) (and_narrow r.flags (255 - bit_of g) counts.narrow)
             (λ f nf. clear_flag f g r.flags ∙ (ap (cond (is_same f g) false) (counts.lights f nf) ∙ sym (is_on-push f cs (Clear g))))
             (λ e. is_on-push Closed cs (Clear g) ∙ (ap (λ (b : Bool). cond b false (is_on Closed cs)) (other_flag Closed g (λ z. open_still (sym z))) ∙ e))
             (clear_flag Rest g r.flags ∙ ap (λ (b : Bool). cond b false (is_set Rest r.flags)) (other_flag Rest g (λ e. ne (sym e)))),
-        (ap (λ (f : Flag). let u : View T K = record v { changes = v.changes ++ Clear f ∷ [] } in u) (sym (flag_at-bit g) ∙ ap flag_at (sym back)), refl, (shows_mine s r id v leads at).0, (shows_mine s r id v leads at).1),
+        (ap (λ (f : Flag). let u : View T K = record (seen (word_of (get_or s.words 0 0)) v) { changes = v.changes ++ Clear f ∷ [] } in u) (sym (flag_at-bit g) ∙ ap flag_at (sym back)), refl, loads_today fits key s r id v at, shows_mine s r id v leads at),
       ))
 
   -- the same from before the item was put into the slot
@@ -230,9 +232,9 @@ module _ {T : Type 0} where
 
 module _ {T K : Type 0} where
   -- a Poster between two calls is one still after it changed a flag
-  pub still_idle : (m m' : Me (Option T) (View T K)) (c : Change T) (next : ℕ) → items (c ∷ []) ≡ [] → m'.0 ≡ record m.0 { changes = m.0.changes ++ c ∷ [] } → m'.1 ≡ m.1
+  pub still_idle : (m m' : Me (Option T) (View T K)) (w : Word) (c : Change T) (next : ℕ) → items (c ∷ []) ≡ [] → m'.0 ≡ record (seen w m.0) { changes = m.0.changes ++ c ∷ [] } → m'.1 ≡ m.1
       → (m.1 ≡ []) × (m.0.lead ≡ true) × (m.0.posting ≡ false) × (next ≡ posted m.0.changes) × (next < 2 ^ 28) → (m'.1 ≡ []) × (m'.0.lead ≡ true) × (m'.0.posting ≡ false) × (next ≡ posted m'.0.changes) × (next < 2 ^ 28)
-  still_idle m m' c next none_new is same i = (same ∙ i.0, ap (λ (v : View T K). v.lead) is ∙ i.1, ap (λ (v : View T K). v.posting) is ∙ i.2, i.3 ∙ sym (ap (λ (v : View T K). posted v.changes) is ∙ ap length (no_more m.0.changes c none_new)), i.4)
+  still_idle m m' w c next none_new is same i = (same ∙ i.0, ap (λ (v : View T K). v.lead) is ∙ i.1, ap (λ (v : View T K). v.posting) is ∙ i.2, i.3 ∙ sym (ap (λ (v : View T K). posted v.changes) is ∙ ap length (no_more m.0.changes c none_new)), i.4)
 
   -- a Poster after it posted is between two calls again
   pub idle_again : (m m' m'' : Me (Option T) (View T K)) (next : ℕ) (x : T) → m'.0 ≡ record m.0 { posting = true; marks = m.0.marks ++ posted m.0.changes ∷ [] }

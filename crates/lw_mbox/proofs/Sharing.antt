@@ -13,7 +13,7 @@ use Rattle.lw_mbox.specs.Changes.{is_on}
 use Rattle.lw_mbox.specs.declared.view.Got.{Got}
 use Rattle.lw_mbox.specs.declared.view.Steps.{Steps}
 use Rattle.lw_mbox.specs.declared.view.View.{View}
-use Rattle.lw_mbox.specs.Trail.{Trail, start, met}
+use Rattle.lw_mbox.specs.Trail.{Trail, start, met, both}
 use Rattle.lw_mbox.specs.History.{History, Sound, IsRight, times}
 use Rattle.lw_mbox.specs.Rule.{coded, code_of, word_of, Found, Ring, Homes, Lights, Counts, Knows, total, Ruled}
 use Rattle.lw_mbox.specs.Plays.{fresh, leading, joined, gathered, spent}
@@ -30,6 +30,9 @@ all_vacant (suc n) (suc i) a h = all_vacant n i a (omega arith)
 
 sound_start : {T : Type 0} (h : History T) → Sound h start
 sound_start h = record { stands = (0, refl); loads = tt; notes = tt }
+
+sound_both : {T : Type 0} (h : History T) (t u : Trail) → Sound h t → Sound h u → Sound h (both t u)
+sound_both h t u r s = let a = r.stands in let b = s.stands in record { stands = (Rattle.std.proofs.Common.max a.0 b.0, (a.0, (b.0, (a.1, b.1, refl)))); loads = (r.loads, s.loads); notes = (r.notes, s.notes) }
 
 none_some : (a : ℕ) → None ≡ Some a → ⊥
 none_some a e = cc
@@ -158,11 +161,11 @@ module _ {T K : Type 0} (fits : K → T → Type 0) (key : K) where
 
   pub joins : (id : ℕ) (v : View T K) (other : ℕ) (w : View T K) → v.lead ≡ false → Joins Rule id v other w (joined v w) spent
   joins id v other w plain s r at apart there = let k = r.each id v at in let h : History T = r.history in
-      unites s r id v other w (joined v w) at apart there (λ o. let a = k.trail.stands in let b = o.trail.stands in record {
+      unites s r id v other w (joined v w) at apart there (λ o. record {
         keyed = k.keyed;
         leads = λ e. absurd (false≢true (sym plain ∙ e));
         marks = λ e. absurd (false≢true (sym plain ∙ e));
-        trail = record { stands = (Rattle.std.proofs.Common.max a.0 b.0, (a.0, (b.0, (a.1, b.1, refl)))); loads = (k.trail.loads, o.trail.loads); notes = (k.trail.notes, o.trail.notes) };
+        trail = sound_both h v.trail.met w.trail.met k.trail o.trail;
         back = All-append (λ (t : Steps). Sound h t.met) v.back w.back k.back o.back;
         got = All-append (IsRight h) v.got w.got k.got o.got;
         partless = λ z. let y = all_zero v.parts w.parts z in let y₀ = (k.partless y.0).1 in let y₁ = (o.partless y.1).1 in (none_twice v.parts w.parts v.got w.got (λ q. (k.partless q).0) (λ q. (o.partless q).0) z, omega arith);
@@ -175,7 +178,7 @@ module _ {T K : Type 0} (fits : K → T → Type 0) (key : K) where
         keyed = k.keyed;
         leads = k.leads;
         marks = k.marks;
-        trail = k.trail;
+        trail = sound_both h v.trail.met w.trail.met k.trail o.trail;
         back = All-append (λ (t : Steps). Sound h t.met) v.back (w.trail ∷ w.back) k.back (Rattle.std.proofs.lemmas.List.Elements.All-cons (λ (t : Steps). Sound h t.met) w.trail w.back o.trail o.back);
         got = All-append (IsRight h) v.got w.got k.got o.got;
         partless = λ z. let y = all_zero v.parts w.parts z in let y₀ = (k.partless y.0).1 in let y₁ = (o.partless y.1).1 in (none_twice v.parts w.parts v.got w.got (λ q. (k.partless q).0) (λ q. (o.partless q).0) z, omega arith);

@@ -282,6 +282,7 @@ module _ {T K : Type 0} (fits : K → T → Type 0) (key : K) where
         same = same;
         claims = omega arith;
         fetches = counts.drawn;
+        own = k.trail;
         places = k.back;
         right = k.got;
         once = λ t. let o = r.once t in let u = total_at (λ z. times t z.got) s.views id v at in let small = cond_small (ltb t r.history.claimed) in omega arith;

@@ -71,12 +71,13 @@ module _ {T : Type 0} where
   abbrev pub AllBelow : ℕ → List (Got T) → Type 0
   AllBelow n gs = All (λ g. g.ticket < n) gs
 
-  -- What a Poster knows of the Takers that it took back, out of a history with its own changes. With all parts it knows everything that was got, and REST was set only where a Taker set it
-  pub record Told (changes : List (Change T)) (parts settings : ℕ) (back : List Steps) (got : List (Got T)) : Type 0 where
+  -- What a Poster knows of what it saw and of the Takers that it took back, out of a history with its own changes. With all parts it knows everything that was got, and REST was set only where a Taker set it
+  pub record Told (changes : List (Change T)) (trail : Trail) (parts settings : ℕ) (back : List Steps) (got : List (Got T)) : Type 0 where
     pub history : History T
     pub same : history.changes ≡ changes
     pub claims : history.claimed ≤ posted changes
     pub fetches : history.fetched ≤ history.claimed
+    pub own : Sound history trail
     pub places : All (λ s. Sound history s.met) back
     pub right : All (IsRight history) got
     pub once : (t : ℕ) → times t got ≤ 1

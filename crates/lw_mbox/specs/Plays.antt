@@ -47,12 +47,12 @@ module _ {T K : Type 0} where
   abbrev pub seen : Word → View T K → View T K
   seen w v = record v { trail = steps (saw v.trail.met w) }
 
-  -- the seat that took in another: its trail too, or as one that came back
+  -- the seat that took in another, with its trail; where it came back also apart
   abbrev pub joined : View T K → View T K → View T K
   joined v u = record v { trail = steps (both v.trail.met u.trail.met); back = v.back ++ u.back; parts = v.parts + u.parts; settings = v.settings + u.settings; got = v.got ++ u.got }
 
   abbrev pub gathered : View T K → View T K → View T K
-  gathered v u = record v { back = v.back ++ (u.trail ∷ u.back); parts = v.parts + u.parts; settings = v.settings + u.settings; got = v.got ++ u.got }
+  gathered v u = record v { trail = steps (both v.trail.met u.trail.met); back = v.back ++ (u.trail ∷ u.back); parts = v.parts + u.parts; settings = v.settings + u.settings; got = v.got ++ u.got }
 
   abbrev pub spent : View T K
   spent = fresh None 0 start
@@ -70,13 +70,14 @@ module _ {T K : Type 0} where
   announced st m n m' = (j : ℕ) (x : T) → m.1 ≡ (j, Some x) ∷ []
       → (m'.0 ≡ record m.0 { posting = false; changes = m.0.changes ++ Post x ∷ [] }) × (m'.1 ≡ [])
 
+  -- a flag was set or cleared; the word that was found was seen
   abbrev pub sets_flag : At T → Seen T K → ℕ → Seen T K → Type 0
-  sets_flag st m n m' = (m'.0 ≡ record m.0 { changes = m.0.changes ++ Set (flag_at st.first) ∷ [] }) × (m'.1 ≡ m.1)
-      × IsWord (word_of n) × Shows m.0.changes (word_of n)
+  sets_flag st m n m' = (m'.0 ≡ record (seen (word_of n) m.0) { changes = m.0.changes ++ Set (flag_at st.first) ∷ [] }) × (m'.1 ≡ m.1)
+      × Loads m.0.trail.met m.0.got n × Shows m.0.changes (word_of n)
 
   abbrev pub clears_flag : At T → Seen T K → ℕ → Seen T K → Type 0
-  clears_flag st m n m' = (m'.0 ≡ record m.0 { changes = m.0.changes ++ Clear (flag_at (18446744073709551615 - st.first)) ∷ [] }) × (m'.1 ≡ m.1)
-      × IsWord (word_of n) × Shows m.0.changes (word_of n)
+  clears_flag st m n m' = (m'.0 ≡ record (seen (word_of n) m.0) { changes = m.0.changes ++ Clear (flag_at (18446744073709551615 - st.first)) ∷ [] }) × (m'.1 ≡ m.1)
+      × Loads m.0.trail.met m.0.got n × Shows m.0.changes (word_of n)
 
   abbrev pub loaded : At T → Seen T K → ℕ → Seen T K → Type 0
   loaded st m n m' = (m'.0 ≡ seen (word_of n) m.0) × (m'.1 ≡ m.1) × Loads m.0.trail.met m.0.got n
@@ -115,4 +116,4 @@ module _ {T K : Type 0} where
   tallied st m n m' = (m' ≡ m) × ((t : ℕ) → times t m.0.got ≤ 1)
 
   abbrev pub tells : At T → Seen T K → ℕ → Seen T K → Type 0
-  tells st m n m' = (m' ≡ m) × Told m.0.changes m.0.parts m.0.settings m.0.back m.0.got
+  tells st m n m' = (m' ≡ m) × Told m.0.changes m.0.trail.met m.0.parts m.0.settings m.0.back m.0.got

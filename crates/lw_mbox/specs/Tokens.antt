@@ -26,13 +26,14 @@ pub record Named (K : Type 0) : Type 0 where
   pub capacity : ℕ
   pub key : K
 
--- a Poster: what it did, the refusals, what its loads of places found, and of the Takers that it took back the parts, the settings of REST, the trails and the tickets
+-- a Poster: what it did, the refusals, what its loads of places found, what it has seen of the event word, also by the Takers that it took back, and of these the parts, the settings of REST, the trails and the tickets
 pub record Desk (T K : Type 0) : Type 0 where
   pub board : TableId
   pub key : Option K
   pub changes : List (Change T)
   pub refusals : ℕ
   pub marks : List ℕ
+  pub trail : Trail
   pub parts : ℕ
   pub settings : ℕ
   pub back : List Steps
@@ -67,6 +68,12 @@ abbrev pub IsFor : Side → Word → Type 0
 IsFor Accepts w = is_set Listen w.flags ≡ true
 IsFor Reads w = is_set Listen w.flags ≡ false
 
+-- a word that a Taker or a Poster may be answered: nothing that it saw or met is newer, and each ticket that it has is below the word's claims
+pub record IsAnswer {T : Type 0} (trail : Trail) (got : List (Got T)) (w : Word) : Type 0 where
+  pub word : IsWord w
+  pub newer : IsNewer trail w
+  pub above : AllBelow w.claimed got
+
 module _ {T K : Type 0} where
   -- whether, after n more posts, one more has a place, and how the look at it leaves the Poster
   abbrev pub Offers : ℕ → Desk T K → ℕ → Result (Unit {0}) PostFault → Desk T K → Type 0
@@ -78,12 +85,6 @@ module _ {T K : Type 0} where
   abbrev pub sees : Hand T K → Word → Hand T K
   sees h w = record h { trail = saw h.trail w }
 
-  -- a word that a Taker may be answered: nothing that it saw or met is newer, and each ticket that it had is below the word's claims
-  pub record IsAnswer (h : Hand T K) (w : Word) : Type 0 where
-    pub word : IsWord w
-    pub newer : IsNewer h.trail w
-    pub above : AllBelow w.claimed h.got
-
   -- the word's next ticket t was claimed, with its item x. The claim saw the word that it left
   abbrev pub Gets : (T → Type 0) → Bool → Hand T K → Word → ℕ → T → Hand T K → Type 0
   Gets fits drained h w t x e = (t ≡ w.claimed) × (w.claimed < w.posted) × fits x
@@ -91,18 +92,18 @@ module _ {T K : Type 0} where
 
   -- what a fetch for a side answers, by the word that it loaded, and how it leaves the Taker
   abbrev pub Fetches : (T → Type 0) → Side → Hand T K → Fetch T → Hand T K → Type 0
-  Fetches fits side h (fetch.Item t x) e = (w : Word) × (IsAnswer h w × IsOpen w × IsFor side w × Gets fits false h w t x e)
-  Fetches fits side h (fetch.Closed w) e = IsAnswer h w × IsClosed w × (e ≡ sees h w)
-  Fetches fits side h (fetch.Other w) e = IsAnswer h w × IsOpen w × (¬ IsFor side w) × (e ≡ sees h w)
-  Fetches fits side h (fetch.Empty w) e = IsAnswer h w × IsOpen w × IsFor side w × (w.posted ≡ w.claimed) × (e ≡ sees h w)
-  Fetches fits side h (fetch.Busy v w) e = IsAnswer h v × IsOpen v × IsFor side v × (v.claimed < v.posted) × IsAnswer (sees h v) w × (v ≢ w) × (e ≡ sees (sees h v) w)
+  Fetches fits side h (fetch.Item t x) e = (w : Word) × (IsAnswer h.trail h.got w × IsOpen w × IsFor side w × Gets fits false h w t x e)
+  Fetches fits side h (fetch.Closed w) e = IsAnswer h.trail h.got w × IsClosed w × (e ≡ sees h w)
+  Fetches fits side h (fetch.Other w) e = IsAnswer h.trail h.got w × IsOpen w × (¬ IsFor side w) × (e ≡ sees h w)
+  Fetches fits side h (fetch.Empty w) e = IsAnswer h.trail h.got w × IsOpen w × IsFor side w × (w.posted ≡ w.claimed) × (e ≡ sees h w)
+  Fetches fits side h (fetch.Busy v w) e = IsAnswer h.trail h.got v × IsOpen v × IsFor side v × (v.claimed < v.posted) × IsAnswer (saw h.trail v) h.got w × (v ≢ w) × (e ≡ sees (sees h v) w)
 
   -- what a drain answers, by the word that it loaded, and how it leaves the Taker
   abbrev pub Drains : (T → Type 0) → Hand T K → Drain T → Hand T K → Type 0
-  Drains fits h (drain.Item t x) e = (w : Word) × (IsAnswer h w × IsClosed w × Gets fits true h w t x e)
-  Drains fits h (drain.Done w) e = IsAnswer h w × IsClosed w × (w.posted ≡ w.claimed) × (e ≡ sees h w) × Parted h.got × (h.parts ≡ 256 → GotAll w.posted h.got)
-  Drains fits h (drain.Alive w) e = IsAnswer h w × IsOpen w × NeverClosed h.trail × (e ≡ sees h w)
-  Drains fits h (drain.Busy v w) e = IsAnswer h v × IsClosed v × (v.claimed < v.posted) × IsAnswer (sees h v) w × (v ≢ w) × (e ≡ sees (sees h v) w)
+  Drains fits h (drain.Item t x) e = (w : Word) × (IsAnswer h.trail h.got w × IsClosed w × Gets fits true h w t x e)
+  Drains fits h (drain.Done w) e = IsAnswer h.trail h.got w × IsClosed w × (w.posted ≡ w.claimed) × (e ≡ sees h w) × Parted h.got × (h.parts ≡ 256 → GotAll w.posted h.got)
+  Drains fits h (drain.Alive w) e = IsAnswer h.trail h.got w × IsOpen w × NeverClosed h.trail × (e ≡ sees h w)
+  Drains fits h (drain.Busy v w) e = IsAnswer h.trail h.got v × IsClosed v × (v.claimed < v.posted) × IsAnswer (saw h.trail v) h.got w × (v ≢ w) × (e ≡ sees (sees h v) w)
 
   -- a Taker after it set REST, or cleared it
   abbrev pub rested : Bool → Hand T K → Hand T K

@@ -61,7 +61,7 @@ pub fn make<T: Mail<K>, K>(
 ) -> Result<(Mbox<T, K>, Poster<T, K>, Taker<T, K>), AllocError>
     requires { (0 < capacity) × (capacity ≤ 1024) }
     ensures mbox { IfOk result (λ r. (r.0.capacity ≡ capacity) × (r.0.key ≡ key.now)) }
-    ensures poster { IfOk result (λ r. r.1 ≡ record { board = r.0.board; key = Some key.now; changes = []; refusals = 0; marks = []; parts = 0; settings = 0; back = []; got = [] }) }
+    ensures poster { IfOk result (λ r. r.1 ≡ record { board = r.0.board; key = Some key.now; changes = []; refusals = 0; marks = []; trail = start; parts = 0; settings = 0; back = []; got = [] }) }
     ensures taker { IfOk result (λ r. r.2 ≡ record { board = r.0.board; key = Some key.now; parts = 256; settings = 0; trail = start; got = [] }) }
 {
     let words = first_words(alloc, capacity as usize)?;

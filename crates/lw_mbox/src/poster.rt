@@ -3,10 +3,10 @@ ghost use Rattle.std.specs.Prelude.{◌≡◌, ◌≢◌, ◌+◌, ◌%◌, ◌^
 ghost use Rattle.lw_base.specs.declared.event_word.Flag.TheVariants.{Rest, Closed};
 ghost use Rattle.lw_mbox.specs.declared.view.Change.TheVariants.{Post, Set, Clear};
 ghost use Rattle.lw_mbox.specs.Changes.{posted, is_on, Shows};
-ghost use Rattle.lw_mbox.specs.Trail.{met, start};
+ghost use Rattle.lw_mbox.specs.Trail.{saw, met, both, start};
 ghost use Rattle.lw_mbox.specs.History.{IsWord, Told};
 ghost use Rattle.lw_mbox.specs.Plays.{steps};
-ghost use Rattle.lw_mbox.specs.Tokens.{IsOf, Offers};
+ghost use Rattle.lw_mbox.specs.Tokens.{IsOf, IsAnswer, Offers};
 
 use crate::answers::PostFault;
 use crate::mbox::Mbox;
@@ -40,7 +40,7 @@ impl<T: Mail<K>, K> Model for Poster<T, K> {
 
     ghost coded = { Prim.hlevel (codes, table_id_coded, trail_coded) };
 
-    ghost view = { λ p. let v = p.seat.me.0 in record { board = p.seat.table_id; key = v.key; changes = v.changes; refusals = p.refusals; marks = v.marks; parts = v.parts; settings = v.settings; back = v.back; got = v.got } };
+    ghost view = { λ p. let v = p.seat.me.0 in record { board = p.seat.table_id; key = v.key; changes = v.changes; refusals = p.refusals; marks = v.marks; trail = v.trail.met; parts = v.parts; settings = v.settings; back = v.back; got = v.got } };
 
     ghost invariant = { λ p. (p.seat.me.1 ≡ []) × (p.seat.me.0.lead ≡ true) × (p.seat.me.0.posting ≡ false) × (p.next ≡ posted p.seat.me.0.changes) × (p.next < 2 ^ 28) };
 }
@@ -98,8 +98,9 @@ impl<T: Mail<K>, K> Poster<T, K> {
     pub fn set(&mut self, mbox: &Mbox<T, K>, flag: Flag) -> Word
         requires own { IsOf mbox.now self.old.board self.old.key }
         requires other { flag ≢ Rest }
-        ensures after { self.new ≡ record self.old { changes = self.old.changes ++ Set flag ∷ [] } }
+        ensures after { self.new ≡ record self.old { trail = saw self.old.trail result; changes = self.old.changes ++ Set flag ∷ [] } }
         ensures before { IsWord result × Shows self.old.changes result }
+        ensures answer { IsAnswer self.old.trail self.old.got result }
     {
         let bit = flag.bit() as u64;
         read(
@@ -113,8 +114,9 @@ impl<T: Mail<K>, K> Poster<T, K> {
     pub fn clear(&mut self, mbox: &Mbox<T, K>, flag: Flag) -> Word
         requires own { IsOf mbox.now self.old.board self.old.key }
         requires other { (flag ≢ Rest) × (flag ≢ Closed) }
-        ensures after { self.new ≡ record self.old { changes = self.old.changes ++ Clear flag ∷ [] } }
+        ensures after { self.new ≡ record self.old { trail = saw self.old.trail result; changes = self.old.changes ++ Clear flag ∷ [] } }
         ensures before { IsWord result × Shows self.old.changes result }
+        ensures answer { IsAnswer self.old.trail self.old.got result }
     {
         let mask = u64::MAX - flag.bit() as u64;
         read(
@@ -139,8 +141,8 @@ impl<T: Mail<K>, K> Poster<T, K> {
     pub fn gather(&mut self, mbox: &Mbox<T, K>, taker: Taker<T, K>)
         requires own { IsOf mbox.now self.old.board self.old.key }
         requires theirs { IsOf mbox.now taker.board taker.key }
-        ensures after { self.new ≡ record self.old { parts = self.old.parts + taker.parts; settings = self.old.settings + taker.settings; back = self.old.back ++ steps taker.trail ∷ []; got = self.old.got ++ taker.got } }
-        ensures told { Told self.new.changes self.new.parts self.new.settings self.new.back self.new.got }
+        ensures after { self.new ≡ record self.old { trail = both self.old.trail taker.trail; parts = self.old.parts + taker.parts; settings = self.old.settings + taker.settings; back = self.old.back ++ steps taker.trail ∷ []; got = self.old.got ++ taker.got } }
+        ensures told { Told self.new.changes self.new.trail self.new.parts self.new.settings self.new.back self.new.got }
     {
         mbox.table
             .shared

@@ -100,7 +100,7 @@ impl<T: Mail<K>, K> Taker<T, K> {
     pub fn word(&mut self, mbox: &Mbox<T, K>) -> Word
         requires own { IsOf mbox.now self.old.board self.old.key }
         ensures after { self.new ≡ sees self.old result }
-        ensures answer { IsAnswer self.old result }
+        ensures answer { IsAnswer self.old.trail self.old.got result }
         ensures parted { Parted self.old.got }
         ensures all { self.old.parts ≡ 256 → GotAll result.claimed self.old.got }
     {
@@ -111,7 +111,7 @@ impl<T: Mail<K>, K> Taker<T, K> {
     pub fn rest(&mut self, mbox: &Mbox<T, K>, on: bool) -> Word
         requires own { IsOf mbox.now self.old.board self.old.key }
         ensures after { self.new ≡ sees (rested on self.old) result }
-        ensures answer { IsAnswer self.old result }
+        ensures answer { IsAnswer self.old.trail self.old.got result }
         ensures rest { is_set Rest result.flags ≡ on }
     {
         if on {
@@ -135,7 +135,7 @@ impl<T: Mail<K>, K> Taker<T, K> {
         requires own { IsOf mbox.now self.old.board self.old.key }
         requires theirs { IsOf mbox.now note.board note.key }
         ensures after { self.new ≡ sees (record self.old { trail = both self.old.trail (met start note.changes note.closed) }) result }
-        ensures answer { IsAnswer (record self.old { trail = both self.old.trail (met start note.changes note.closed) }) result }
+        ensures answer { IsAnswer (both self.old.trail (met start note.changes note.closed)) self.old.got result }
     {
         mbox.table
             .shared

@@ -314,12 +314,14 @@ pub second_seats : (hands : Bool) (h k : SeatSeen) (p q : ChainSeen) (r : Result
 second_seats hands h k p q (Ok o) same of s = second_of_seat hands h k p q o same of s
 second_seats hands h k p q (Err f) same of s = tt
 
-pub is_chained : (p q t u o : ChainSeen) → IsSharedTo false t u o → q.parts ≡ p.parts ++ o.parts → q.table ≡ p.table → IsChained p q t u
-is_chained p q t u o s parts table = record {
+pub is_chained : (p q t u o : ChainSeen) → IsSharedTo false t u o → q.parts ≡ p.parts ++ o.parts → q.table ≡ p.table → p.room ≤ q.room + length o.parts → IsChained p q t u
+is_chained p q t u o s parts table room = record {
   parts = parts ∙ ap (λ (l : List Part). p.parts ++ l) s.second;
   tail = s.first;
   table = table;
   tail_table = s.first_table;
+  room = let n = ap (λ (l : List Part). length l) s.second in let m = length-map t.parts (second_of false) in omega arith;
+  tail_room = s.room;
   rows = λ x. let a = ap (λ (l : List Part). rows_in l x) parts in let b = sum_by-append (λ (y : Part). row_of y.owner x) p.parts o.parts in let r = s.rows x in omega arith;
   weight = let a = ap weight_in parts in let b = sum_by-append (λ (y : Part). weight_of y.owner) p.parts o.parts in let w = s.weight in omega arith;
 }

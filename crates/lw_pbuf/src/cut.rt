@@ -63,6 +63,7 @@ impl Chain {
         requires own { all_own self.old.parts ≡ true }
         requires within { length octets.now ≤ length (joined self.old.parts) }
         ensures octets { joined self.new.parts ≡ octets.now }
+        ensures left { IsRewritten (with_front (length octets.now) self.old.parts) self.new.parts }
         ensures cut { IsCutTo seat.old seat.new self.old.parts self.new.parts }
         ensures room { self.old.room ≤ self.new.room }
         ensures few { length self.new.parts ≤ length (joined self.new.parts) }

@@ -7,4 +7,4 @@ pub fetch_or-requires : goal.fetch_or-requires
 fetch_or-requires g c = (search rules, search rules, sets g.T.Mail.fits _ _ _ _ c.args.flag _ (search rules) (search rules) (search rules))
 
 pub invariant_of-self : goal.invariant_of-self
-invariant_of-self g c = let f = c.fetch_or.ensures.2 in still_idle _ _ (Set _) _ refl f.0 f.1 c.self.invariant
+invariant_of-self g c = let f = c.fetch_or.ensures.2 in still_idle _ _ _ (Set _) _ refl f.0 f.1 c.self.invariant

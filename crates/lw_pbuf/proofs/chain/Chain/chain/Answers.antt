@@ -12,4 +12,4 @@ cat-requires-clause-short c =
     omega arith
 
 pub returns-clause-chained : goal.returns-clause-chained
-returns-clause-chained c = is_chained _ _ _ _ _ c.in_ok-other.ensures.shared c.cat.ensures.parts c.cat.ensures.table
+returns-clause-chained c = is_chained _ _ _ _ _ c.in_ok-other.ensures.shared c.cat.ensures.parts c.cat.ensures.table c.cat.ensures.room

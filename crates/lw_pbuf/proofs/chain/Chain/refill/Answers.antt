@@ -3,7 +3,7 @@ use Rattle.std.specs.Arc.{arc_value}
 use Rattle.std.specs.List.{refill}
 use Rattle.pbuf_spans.specs.Parts.{Part, joined, rows_in, all_own, IsChain}
 use Rattle.lw_pbuf.specs.Chains.{ChainSeen, all_parts, NoneEmpty}
-use Rattle.pbuf_spans.specs.Cuts.{IsCutTo, IsRewritten}
+use Rattle.pbuf_spans.specs.Cuts.{with_front, IsCutTo, IsRewritten}
 use Rattle.lw_pbuf.proofs.Joined.{few_parts}
 use Rattle.lw_pbuf.proofs.Rewriting.{rewritten_back, rewritten_chain, rewritten_cut, rewritten_rows, rewritten_some}
 use Rattle.lw_pbuf.proofs.chain.Chain.refill.Goals as goal
@@ -34,6 +34,17 @@ pub returns-clause-octets : goal.returns-clause-octets
 returns-clause-octets c =
     let b = rewritten_back c.self.inside.spans.items c.as_mut_slice.result.now c.write_over.new.spans c.as_mut_slice.ensures.value c.write_over.auto.spans c.write_over.ensures.same in
     ap (λ (l : List (List Part)). joined (all_parts l)) b.0 ∙ c.write_over.ensures.octets
+
+pub returns-clause-left : goal.returns-clause-left
+returns-clause-left c =
+    let b = rewritten_back c.self.inside.spans.items c.as_mut_slice.result.now c.write_over.new.spans c.as_mut_slice.ensures.value c.write_over.auto.spans c.write_over.ensures.same in
+    let all = c.args.self.now.parts in
+    let n : c.len.result ≡ length (joined all) = c.len.ensures in
+    let w = c.requires.within in
+    let count : length (joined all) - (c.len.result - length c.args.octets.now) ≡ length c.args.octets.now = omega arith in
+    let before : all_parts c.self.inside.spans.items ≡ with_front (length c.args.octets.now) all = ap (λ (x : ChainSeen). x.parts) c.self.view_is ∙ (c.cut_back.ensures.left ∙ ap (λ (k : ℕ). with_front k all) count) in
+    subst (λ (l : List (List Part)). IsRewritten (with_front (length c.args.octets.now) all) (all_parts l)) (sym b.0)
+    (subst (λ (ps : List Part). IsRewritten ps (all_parts c.write_over.new.spans)) before b.1)
 
 pub returns-clause-cut : goal.returns-clause-cut
 returns-clause-cut c =
