@@ -7,7 +7,6 @@ mod line;
 mod lines;
 mod make;
 mod message;
-mod queue;
 mod reply;
 mod serve;
 mod server;

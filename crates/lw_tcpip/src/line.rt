@@ -1,5 +1,5 @@
 //! One line's way to the tcpip thread.
-ghost use Rattle.std.specs.Prelude.{◌≡◌};
+ghost use Rattle.std.specs.Prelude.{◌≡◌, ◌+◌, ◌<◌, ◌≤◌, length};
 ghost use Rattle.lw_tcpip.specs.Results.{counted};
 
 use crate::message::Entry;
@@ -39,6 +39,21 @@ impl<O: Serial> Line<O> {
         ensures { result ≡ self.now.number }
     {
         self.put.number()
+    }
+
+    /// How many entries its questions made, up to the last number of 64 bits.
+    pub fn entries(&self) -> u64
+        ensures { result ≡ self.now.entries }
+    {
+        self.entries
+    }
+
+    /// How many of its frames were refused. Where there is one, the frames that it has put in and the other lines are together at least the places.
+    pub fn refusals(&self) -> u64
+        ensures count { result ≡ self.now.refusals }
+        ensures full { 0 < result → self.now.places ≤ length self.now.frames + self.now.others }
+    {
+        self.refusals
     }
 
     /// Whether, at the last reply, a frame had been given up for want of memory.

@@ -9,7 +9,6 @@ ghost use Rattle.lw_tcpip.specs.Tokens.{IsServerOf};
 use crate::desk::{all_left, give, leave};
 use crate::gate::{Gate, Place};
 use crate::message::Task;
-use crate::queue::pause;
 use crate::reply::Reply;
 use crate::server::Server;
 use crate::tcpip::Tcpip;
@@ -45,18 +44,16 @@ where
         ensures lost { IfErr result.1 (λ _. length result.0.mine < length server.new.taken) }
         ensures ended { server.new.ended ≡ true }
     {
-        let mut looks = 0;
         for _ in rt.forever() {
             if server.ended {
                 return (who, outcome(server.lost));
             }
-            let found = self.turn(rt, lock, server, &mut who, quit, gate);
-            looks = pause(looks, found);
+            self.turn(rt, lock, server, &mut who, quit, gate);
         }
         unreachable!()
     }
 
-    // Takes a message, if one lies in the mailbox, and makes its event. It says whether there was one.
+    // Waits for a message, takes it, and makes its event.
     fn turn<R: Wait, G: Gate>(
         &self,
         rt: &R,
@@ -65,7 +62,7 @@ where
         who: &mut Caller<O>,
         quit: &AtomicBool,
         gate: &G,
-    ) -> bool
+    )
         requires lock { self.now.key.lock.value ≡ lock.now }
         requires server { IsServerOf self.now server.old }
         requires own { IsCallerOf lock.now who.old × (who.old.number ≡ self.now.key.server) }
@@ -74,15 +71,11 @@ where
         ensures same { IsSameCaller who.old who.new }
         ensures made { IsMadeOf (O.tells (O.tag lock.now.start)) who.new.mine server.new.taken server.new.lost }
     {
-        let Some(task) = self.mbox.get(rt, &mut server.get) else {
-            return false;
-        };
-        match task {
+        match self.mbox.fetch(rt, &mut server.get) {
             Task::Frame(frame) => {
                 gate.pass(who.number(), 0, Place::Served);
                 let made = make_frame(rt, lock, who, quit, frame);
                 server.lost = server.lost | !made;
-                true
             }
             Task::Call(line, caller, event) => {
                 gate.pass(caller.number(), 0, Place::Served);
@@ -96,12 +89,10 @@ where
                     note,
                 };
                 give(rt, &mut server.seats, line, reply);
-                true
             }
             Task::Leave(line) => {
                 leave(&mut server.seats, line);
                 server.ended = all_left(&server.seats);
-                true
             }
         }
     }

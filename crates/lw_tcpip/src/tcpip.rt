@@ -10,7 +10,6 @@ ghost use Rattle.lw_tcpip.specs.declared.tcpip.InputFault.TheVariants.{MboxFull}
 
 use crate::line::{Line, counted_after};
 use crate::message::{Queue, Task};
-use crate::queue::post;
 use crate::reply::Reply;
 use crate::server::Server;
 use hist_lock::{Caller, HistLock, Serial};
@@ -63,7 +62,7 @@ impl<O: Serial> Model for Tcpip<O> {
 }
 
 impl<O: Serial> Tcpip<O> {
-    /// Sends the caller and the event to the tcpip thread, waits for the answer, and hands both back. Where the mailbox is full it tries again.
+    /// Sends the caller and the event to the tcpip thread, waits for the answer, and hands both back. Where the mailbox is full it waits for a place.
     pub fn apimsg<R: Wait>(
         &self,
         rt: &R,
@@ -83,7 +82,8 @@ impl<O: Serial> Tcpip<O> {
         ensures fed { line.old.number ≡ 0 → IsMadeOf (O.tells (O.tag self.now.key.lock.value.start)) (made_by O.by self.now.key.server result.0.seen) line.old.frames line.new.lost }
     {
         let number = line.put.number();
-        post(rt, &self.mbox, &mut line.put, Task::Call(number, who, ev));
+        self.mbox
+            .post(rt, &mut line.put, Task::Call(number, who, ev));
         let reply = line.place.get(rt, &mut line.waits);
         let Reply {
             caller,
@@ -122,17 +122,17 @@ impl<O: Serial> Tcpip<O> {
         }
     }
 
-    /// The last message of a line. Where the mailbox is full it tries again.
+    /// The last message of a line. Where the mailbox is full it waits for a place.
     pub fn leave<R: Wait>(&self, rt: &R, line: &mut Line<O>)
         requires line { IsLineOf self.now line.old }
         requires stays { line.old.left ≡ false }
         ensures { line.new ≡ record line.old { left = true } }
     {
         let number = line.put.number();
-        post(rt, &self.mbox, &mut line.put, Task::Leave(number));
+        self.mbox.post(rt, &mut line.put, Task::Leave(number));
     }
 
-    /// Takes a line back, once the server has ended. The frames that the first line put in are those that the server took, in their order.
+    /// Takes a line back, once the server has ended. The first line has left then, and the frames that it put in are those that the server took, in their order.
     pub fn gather(&self, server: &mut Server<O>, line: Line<O>)
     where
         O::Ev: Drop,
@@ -141,6 +141,7 @@ impl<O: Serial> Tcpip<O> {
         requires ended { server.old.ended ≡ true }
         requires line { IsLineOf self.now line }
         ensures same { server.new ≡ server.old }
+        ensures left { line.number ≡ 0 → line.left ≡ true }
         ensures frames { line.number ≡ 0 → server.new.taken ≡ line.frames }
     {
         let Line {

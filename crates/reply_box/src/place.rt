@@ -1,16 +1,12 @@
 //! The place, and the rights of its two sides.
-ghost use Rattle.std.specs.Prelude.{◌≡◌, ◌+◌, Some, IfOk, IfErr, OnOk, IfSome, IfNone};
+ghost use Rattle.std.specs.Prelude.{◌≡◌, ◌+◌, Some, IfOk};
 ghost use Rattle.reply_box.specs.Places.{IsOf};
 
 use crate::answer::{Answer, Carried};
 use std::alloc::{AllocError, Global};
 use std::marker::Model;
 use std::sync::Wait;
-use std::{hint, thread};
 use tcpip_mbox::{Get, Put, TcpipMbox};
-
-/// How often a side looks at the place, before it yields its thread.
-const LOOKS: u32 = 100;
 
 /// A reply place. Contracts see which one it is, and what its replies answer.
 /// It is Drop where its replies are.
@@ -94,47 +90,13 @@ impl<R: Answer<K>, K> ReplyBox<R, K> {
         Ok((ReplyBox { mbox }, Pledge { put }, Await { get }))
     }
 
-    // Puts the answer to the next question in, unless one lies there.
-    fn try_give<W: Wait>(&self, rt: &W, pledge: &mut Pledge<R, K>, reply: R) -> Result<(), R>
-        requires own { IsOf self.now pledge.old }
-        requires answers { R.answers self.now.key pledge.old.count reply }
-        ensures ok { OnOk result (pledge.new ≡ record pledge.old { count = pledge.old.count + 1 }) }
-        ensures err { IfErr result (λ back. (back ≡ reply) × (pledge.new ≡ pledge.old)) }
-    {
-        match self.mbox.put(rt, &mut pledge.put, Carried { reply }) {
-            Ok(()) => Ok(()),
-            Err(Carried { reply }) => Err(reply),
-        }
-    }
-
-    // Takes the answer to the next question out, if it lies there.
-    fn try_get<W: Wait>(&self, rt: &W, waits: &mut Await<R, K>) -> Option<R>
-        requires own { IsOf self.now waits.old }
-        ensures some { IfSome result (λ r. R.answers self.now.key waits.old.count r × (waits.new ≡ record waits.old { count = waits.old.count + 1 })) }
-        ensures none { IfNone result (waits.new ≡ waits.old) }
-    {
-        let carried = self.mbox.get(rt, &mut waits.get)?;
-        let Carried { reply } = carried;
-        Some(reply)
-    }
-
     /// Waits until the place is free, and puts in the answer to the next question.
-    pub fn give<W: Wait>(&self, rt: &W, pledge: &mut Pledge<R, K>, mut reply: R)
+    pub fn give<W: Wait>(&self, rt: &W, pledge: &mut Pledge<R, K>, reply: R)
         requires own { IsOf self.now pledge.old }
         requires answers { R.answers self.now.key pledge.old.count reply }
         ensures given { pledge.new ≡ record pledge.old { count = pledge.old.count + 1 } }
     {
-        for _ in rt.forever() {
-            for _ in 0..LOOKS {
-                match self.try_give(rt, pledge, reply) {
-                    Ok(()) => return,
-                    Err(back) => reply = back,
-                }
-                hint::spin_loop();
-            }
-            thread::yield_now();
-        }
-        unreachable!()
+        self.mbox.post(rt, &mut pledge.put, Carried { reply });
     }
 
     /// Waits for the answer to the next question, and takes it out.
@@ -143,15 +105,7 @@ impl<R: Answer<K>, K> ReplyBox<R, K> {
         ensures answers { R.answers self.now.key waits.old.count result }
         ensures got { waits.new ≡ record waits.old { count = waits.old.count + 1 } }
     {
-        for _ in rt.forever() {
-            for _ in 0..LOOKS {
-                if let Some(reply) = self.try_get(rt, waits) {
-                    return reply;
-                }
-                hint::spin_loop();
-            }
-            thread::yield_now();
-        }
-        unreachable!()
+        let Carried { reply } = self.mbox.fetch(rt, &mut waits.get);
+        reply
     }
 }

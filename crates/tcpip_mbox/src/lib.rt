@@ -1,6 +1,7 @@
 //! The queue to the tcpip thread. Several lines put messages in, and one thread takes them out, first in first out.
 #![tactic(auto)]
 
+mod bell;
 mod get;
 mod given;
 mod mbox;

@@ -6,6 +6,7 @@ ghost use Rattle.tcpip_mbox.specs.Letters.{sent_by};
 ghost use Rattle.tcpip_mbox.specs.Views.{both_ways, firstborn};
 ghost use Rattle.tcpip_mbox.specs.Tokens.{IsOf, letter, AreNumbered, ArePuts};
 
+use crate::bell::{BEGUN, Bell};
 use crate::get::Get;
 use crate::given::Given;
 use crate::message::Message;
@@ -23,6 +24,8 @@ use std::sync::Wait;
 pub struct TcpipMbox<M: Message<K>, K> {
     queue: Queue<M, K>,
     key: Shown<K>,
+    filled: Bell,
+    freed: Bell,
 }
 
 impl<M: Message<K>, K> Model for TcpipMbox<M, K> {
@@ -38,6 +41,8 @@ impl<M: Message<K> + Drop, K> Drop for TcpipMbox<M, K> {
         let Self {
             queue: _queue,
             key: _,
+            filled: _filled,
+            freed: _freed,
         } = self;
     }
 }
@@ -104,8 +109,13 @@ impl<M: Message<K>, K> TcpipMbox<M, K> {
         if puts.insert(0, head).is_err() {
             unreachable!()
         }
-        let key = Shown::of(key);
-        Ok((TcpipMbox { queue, key }, puts, Get { pass }))
+        let mbox = TcpipMbox {
+            queue,
+            key: Shown::of(key),
+            filled: Bell::new(),
+            freed: Bell::new(),
+        };
+        Ok((mbox, puts, Get { pass }))
     }
 
     /// Puts a message in, at the end. It comes back only where the mailbox was full at a moment of the call, and to the first Put only where
@@ -123,9 +133,30 @@ impl<M: Message<K>, K> TcpipMbox<M, K> {
             message,
         };
         match self.queue.push_as::<Sent, R>(rt, &mut put.pass, letter) {
-            Ok(()) => Ok(()),
+            Ok(()) => {
+                self.filled.ring();
+                Ok(())
+            }
             Err(Letter { from: _, message }) => Err(message),
         }
+    }
+
+    /// Waits until the mailbox has a place, and puts a message in, at the end.
+    pub fn post<R: Wait>(&self, rt: &R, put: &mut Put<M, K>, mut message: M)
+        requires own { IsOf self.now put.old.table put.old.key }
+        requires fits { M.fits self.now.key put.old.number put.old.sent message }
+        requires known { put.old.number ≢ 0 → put.old.known ≡ length put.old.sent }
+        ensures { put.new ≡ record put.old { sent = put.old.sent ++ message ∷ [] } }
+    {
+        let mut watch = BEGUN;
+        for _ in rt.forever() {
+            match self.put(rt, put, message) {
+                Ok(()) => return,
+                Err(back) => message = back,
+            }
+            watch = self.freed.wait(rt, watch);
+        }
+        unreachable!()
     }
 
     /// Takes the oldest message out. None only where the mailbox was empty at a moment of the call.
@@ -137,7 +168,24 @@ impl<M: Message<K>, K> TcpipMbox<M, K> {
     {
         let letter = self.queue.pop_as::<Got, R>(rt, &mut get.pass)?;
         let Letter { from: _, message } = letter;
+        self.freed.ring();
         Some(message)
+    }
+
+    /// Waits until a message lies in the mailbox, and takes the oldest one out.
+    pub fn fetch<R: Wait>(&self, rt: &R, get: &mut Get<M, K>) -> M
+        requires own { IsOf self.now get.old.table get.old.key }
+        ensures same { (get.new.table ≡ get.old.table) × (get.new.key ≡ get.old.key) × (get.new.others ≡ get.old.others) }
+        ensures got { (n : ℕ) × (n ≤ get.old.others) × M.fits self.now.key n (sent_by n get.old.given) result × (get.new.given ≡ get.old.given ++ letter n result ∷ []) }
+    {
+        let mut watch = BEGUN;
+        for _ in rt.forever() {
+            if let Some(message) = self.get(rt, get) {
+                return message;
+            }
+            watch = self.filled.wait(rt, watch);
+        }
+        unreachable!()
     }
 
     /// A note of what was given so far. It waits for nobody.

@@ -1,8 +1,0 @@
-use Rattle.std.proofs.Common.{◌≡◌}
-use Rattle.reply_box.proofs.place.ReplyBox.get.Given as goal
-
-abbrev pub invariant-loop : goal.invariant-loop
-invariant-loop g l = l.waits ≡ l.fn.waits
-
-abbrev pub invariant-loop-2 : goal.invariant-loop-2
-invariant-loop-2 g l = l.waits ≡ l.fn.waits
