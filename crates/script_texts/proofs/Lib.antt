@@ -1,0 +1,3 @@
+mod StartLaws
+pub mod TextLaws
+mod UpgradeLaws
