@@ -1,17 +1,23 @@
 -- Which connections have an end, as ends are made, changed and removed.
-use Rattle.std.proofs.Common.{◌≡◌, ◌≢◌, ℕ, ◌+◌, ◌-◌, ◌==◌, if◌then◌else◌, cond, not, Bool, true, false, List, [], ◌∷◌, ◌++◌, length, filter, Option, Some, None, is_some, Result, Ok, Err, slice_set, refl, sym, ap, ◌∙◌}
+use Rattle.std.proofs.Common.{◌≡◌, ◌≢◌, ℕ, ◌+◌, ◌-◌, ◌==◌, if◌then◌else◌, cond, not, Bool, true, false, List, [], ◌∷◌, ◌++◌, length, filter, Option, Some, None, is_some, IfSome, IsTrue, Result, Ok, Err, slice_set, refl, sym, ap, ◌∙◌}
 use Rattle.std.proofs.lemmas.Bool.{eqb-true, eqb-false, eq-eqb, ne_eqb}
 use Rattle.lw_base.specs.declared.addresses.Ip.{Ip}
 use Rattle.lw_base.specs.declared.addresses.Port.{Port}
 use Rattle.lw_base.specs.declared.errors.Err.{Err as Code}
 use Rattle.lw_udp.specs.declared.ends.UdpEnd.{UdpEnd}
+use Rattle.lw_udp.specs.declared.delivery.Claim.{Claim}
+use Rattle.lw_udp.specs.declared.delivery.Class.{Class}
+use Rattle.lw_udp.specs.Delivery.{best, claim_of, class_of}
+use Rattle.lw_udp.proofs.ClaimLaws.{delivery}
+use Rattle.lw_udp.proofs.ListLaws.{not_found, one_passes}
 use Rattle.lw_udp.specs.Ends.{Socket, Table as UdpTable, is_of, end_of, unbound, changed, with_local, with_remote, local_of}
 use Rattle.lw_udp.specs.Ports.{bind, bound_by, connect, with_ephemeral, with_port, with_peer, result_map, table_after, bind_port, free_port}
-use Rattle.std.specs.Option.{option_map_or}
+use Rattle.std.specs.Option.{option_map, option_map_or}
 use Rattle.lw_conn.specs.declared.connections.Connection.{Connection}
 use Rattle.lw_udp.specs.Ports.{answer_of}
-use Rattle.lw_api_msg.specs.Endpoints.{Table, Answer, by_udp, reply_of}
-use Rattle.lw_api_msg.proofs.PlaceLaws.{at, more_elsewhere, more_here, less_elsewhere, less_here, none_next, none_is}
+use Rattle.lw_conn.specs.Connections.{connection}
+use Rattle.lw_api_msg.specs.Endpoints.{Table, Answer, HaveEnds, by_udp, reply_of}
+use Rattle.lw_api_msg.proofs.PlaceLaws.{at, more_elsewhere, more_here, less_elsewhere, less_here, none_next, none_is, numbered, put_elsewhere, put_here}
 
 -- a change of an end leaves its connection
 has_changed : (es : List UdpEnd) (conn n : ℕ) (f : UdpEnd → UdpEnd) → ((e : UdpEnd) → (f e).conn ≡ e.conn) → is_some (end_of (changed es conn f) n) ≡ is_some (end_of es n)
@@ -127,6 +133,40 @@ module _ {C : Type 0} where
             let away = eqb-false n conn other in
             has_removed es conn n away ∙ both n ∙ ap is_some (sym (less_elsewhere cs conn n some away))
       ] refl
+
+  -- what is put in place of a connection that is there has its end
+  pub both_put : (es : List UdpEnd) (cs : List (Option C)) → ((n : ℕ) → is_some (end_of es n) ≡ is_some (at cs n)) → (conn : ℕ) (c : Option C) → is_some (at cs conn) ≡ true → is_some c ≡ true
+      → (n : ℕ) → is_some (end_of es n) ≡ is_some (at (slice_set cs (conn - 1) c) n)
+  both_put es cs both conn c live there n =
+      elim (n == conn) as (λ b. (n == conn) ≡ b → is_some (end_of es n) ≡ is_some (at (slice_set cs (conn - 1) c) n)) [
+        | true ↦ λ own.
+            let here = eqb-true n conn own in
+            both n ∙ ap (λ (m : ℕ). is_some (at cs m)) here ∙ live ∙ sym there
+            ∙ sym (ap (λ (m : ℕ). is_some (at (slice_set cs (conn - 1) c) m)) here ∙ ap is_some (put_here cs conn c live))
+        | false ↦ λ other. both n ∙ ap is_some (sym (put_elsewhere cs conn n c (numbered cs conn live) (eqb-false n conn other)))
+      ] refl
+
+-- A datagram goes to a connection that has an end
+
+claim_number : (src dst : Socket) (e : UdpEnd) (c : Claim) → claim_of src dst e ≡ Some c → e.conn ≡ c.conn
+claim_number src dst e c claims =
+    elim (class_of src dst e) as (λ o. option_map (λ (class : Class). let it : Claim = record { class = class; conn = e.conn } in it) o ≡ Some c → e.conn ≡ c.conn) [ None ↦ λ h. absurd (cc) | Some class ↦ λ h. cc ] claims
+
+pub best_has_end : (src dst : Socket) (es : List UdpEnd) (conn : ℕ) → best src dst es ≡ Some conn → is_some (end_of es conn) ≡ true
+best_has_end src dst es conn goes =
+    let it = delivery.somewhere src dst es conn goes in
+    let e = it.claimed.0 in
+    let its : is_of conn e ≡ true = eq-eqb e.conn conn (claim_number src dst e it.claim it.claimed.2 ∙ it.number) in
+    let passes = one_passes (is_of conn) es e it.claimed.1 its in
+    elim (end_of es conn) as (λ o. end_of es conn ≡ o → is_some o ≡ true) [
+      | None ↦ λ none. absurd (let clash : false ≡ true = sym (not_found (is_of conn) es none) ∙ passes in cc)
+      | Some x ↦ λ _. refl
+    ] refl
+
+-- so that connection is live where just the live ones have ends
+pub best_is_live : (e : Table) (src dst : Socket) (r : Option ℕ) → HaveEnds e → r ≡ best src dst e.udp.ends → IfSome r (λ conn. IsTrue (is_some (connection e.conns conn)))
+best_is_live e src dst (Some conn) both is = sym (both conn) ∙ best_has_end src dst e.udp.ends conn (sym is)
+best_is_live e src dst None both is = tt
 
 -- an answer of the table of UDP ends, and the table after it
 pub by_udp_is : (e : Table) (r : Result UdpTable Code) → (reply_of (answer_of r), record e { udp = table_after e.udp r }) ≡ by_udp e r

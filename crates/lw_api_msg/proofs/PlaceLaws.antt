@@ -77,6 +77,26 @@ module _ {C : Type 0} where
         | false ↦ set_own cs (m - 1)
       ]
 
+  -- one that is put in place of another is there, and the others stay
+  pub put_elsewhere : (cs : List (Option C)) (m n : ℕ) (c : Option C) → 0 ≢ m → n ≢ m → at (slice_set cs (m - 1) c) n ≡ at cs n
+  put_elsewhere cs m n c some other =
+      elim (n == 0) as (λ b. (n == 0) ≡ b → (if b then None else option_and_then (λ c. c) (slice_get (slice_set cs (m - 1) c) (n - 1))) ≡ (if b then None else option_and_then (λ c. c) (slice_get cs (n - 1)))) [
+        | true ↦ λ _. refl
+        | false ↦ λ e. let here = eqb-false n 0 e in ap (option_and_then (λ (c : Option C). c)) (set_other cs (m - 1) (n - 1) c (λ same. other (less_same m n some here same)))
+      ] refl
+
+  there_set : (cs : List (Option C)) (i : ℕ) (c : Option C) → is_some (option_and_then (λ c. c) (slice_get cs i)) ≡ true → option_and_then (λ c. c) (slice_get (slice_set cs i c) i) ≡ c
+  there_set [] i c there = absurd (let h = there in cc)
+  there_set (x ∷ cs) zero c there = refl
+  there_set (x ∷ cs) (suc i) c there = there_set cs i c there
+
+  pub put_here : (cs : List (Option C)) (m : ℕ) (c : Option C) → is_some (at cs m) ≡ true → at (slice_set cs (m - 1) c) m ≡ c
+  put_here cs m c there =
+      elim (m == 0) as (λ b. is_some (if b then None else option_and_then (λ c. c) (slice_get cs (m - 1))) ≡ true → (if b then None else option_and_then (λ c. c) (slice_get (slice_set cs (m - 1) c) (m - 1))) ≡ c) [
+        | true ↦ λ h. absurd (cc)
+        | false ↦ λ h. there_set cs (m - 1) c h
+      ] there
+
   -- what is there has a number
   pub numbered : (cs : List (Option C)) (m : ℕ) → is_some (at cs m) ≡ true → 0 ≢ m
   numbered cs zero there = absurd (let a = there in cc)

@@ -44,12 +44,13 @@ pub record IsMade {P : Type 0} (before : Shelf P) (conn : ℕ) (after : Shelf P)
   pub found : StayFound before after
   pub refusals : after.refusals ≡ before.refusals
 
--- a place was asked for: where none was found, the count of refusals rose
+-- a place was asked for: a ticket that has one is below 2^28 - 1, and where none was found, the count of refusals rose
 pub record IsAsked {P : Type 0} (before : Shelf P) (conn ahead : ℕ) (answer : Bool) (after : Shelf P) : Type 0 where
   pub made : after.made ≡ before.made
   pub same : (c : ℕ) → after.box c ≡ before.box c
   pub stay : StayFound before after
   pub found : answer ≡ true → (after.found conn ((before.box conn).posted + ahead) ≡ true) × (after.refusals ≡ before.refusals)
+  pub few : answer ≡ true → (before.box conn).posted + ahead < 2 ^ 28 - 1
   pub refused : answer ≡ false → HasRisen before.refusals after.refusals
 
 -- an item was posted

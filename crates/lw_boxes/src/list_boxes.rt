@@ -1,4 +1,4 @@
-ghost use Rattle.std.specs.Prelude.{◌≡◌, ◌≢◌, ◌+◌, ◌<◌, ◌≤◌, ◌^◌, false, true, length, option_and_then, option_map, Some};
+ghost use Rattle.std.specs.Prelude.{◌≡◌, ◌≢◌, ◌+◌, ◌<◌, ◌≤◌, ◌^◌, ℕ, false, true, length, option_and_then, option_map, Some};
 ghost use Rattle.std.specs.Option.{option_map_or};
 ghost use Rattle.lw_boxes.specs.Shelf.{IsPosted};
 ghost use Rattle.lw_boxes.specs.Lists.{box_of, fetched, has_place, no_boxes, oldest, rested, shelf_of, with_box, word_of};
@@ -73,9 +73,13 @@ impl<P> Boxes<P> for ListBoxes<P> {
 
     ghost offers = { λ before conn ahead answer after. answer ≡ option_map_or (λ b. has_place before.capacity b ahead) (box_of before conn) false };
 
+    ghost Terms = { ℕ };
+
+    ghost terms = { λ boxes. boxes.capacity };
+
     ghost fits = { λ _ _. Unit {0} };
 
-    ghost capacity = { λ boxes. boxes.capacity };
+    ghost capacity = { λ capacity. capacity };
 
     fn make(&mut self, conn: u32) -> Result<(), NoMemory> {
         if (conn as usize) > self.boxes.len() {
