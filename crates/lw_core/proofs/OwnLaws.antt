@@ -1,11 +1,10 @@
 -- What is made may be given beside what was owned.
-use Rattle.std.proofs.Common.{◌≡◌, ℕ, ◌^◌, ◌<◌, List, ◌∷◌, length, ap, subst, sym, arith}
+use Rattle.std.proofs.Common.{◌≡◌, ℕ, ◌+◌, ◌^◌, ◌<◌, List, ◌∷◌, length, ap, subst, sym, arith}
 use Rattle.lw_payload.specs.declared.kinds.Kind.{Kind}
 use Rattle.lw_payload.specs.Views.{View, HomeView, Pools}
 use Rattle.lw_payload.specs.Calls.{IsMade}
-use Rattle.lw_payload.specs.Totals.{total, IsOwned, Moves}
-use Rattle.lw_payload.proofs.TotalLaws.{stranger-none, IsOwned-moved, IsSum-cons}
-use Rattle.lw_core.proofs.MoveLaws.{IsOwned-by}
+use Rattle.lw_payload.specs.Totals.{total, IsOwned}
+use Rattle.lw_payload.proofs.TotalLaws.{stranger-none, IsSum-cons}
 
 pub made_owned : {P : Type 0} (seen : P → View) (h k : HomeView) (kind : Kind) (octets : List ℕ) (p : P) (held : List P)
     → IsMade h k kind octets (seen p) → k.pools ≡ h.pools → length octets < 2 ^ 32
@@ -20,10 +19,3 @@ made_owned seen h k kind octets p held m same short owned =
       rows = λ s. let r = sum.rows s in let o = owned.rows s in let e = m.rows s in omega arith;
       strangers = let n = sum.strangers in let o = owned.strangers in omega (arith, known);
     })
-
--- and so may what is left after a call
-pub moved_owned : {P : Type 0} (seen : P → View) (h k : HomeView) (before after : List P) → IsOwned h (total seen h.pools.family before)
-    → Moves h k (total seen h.pools.family before) (total seen h.pools.family after) → IsOwned k (total seen k.pools.family after)
-moved_owned seen h k before after owned moved =
-    IsOwned-by seen k.pools.family h.pools.family k after (sym (ap (λ (p : Pools). p.family) moved.pools))
-    (IsOwned-moved h k (total seen h.pools.family before) (total seen h.pools.family after) owned moved)

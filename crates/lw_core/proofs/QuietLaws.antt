@@ -1,21 +1,23 @@
 -- Layers over an event that brings no payload.
-use Rattle.std.proofs.Common.{◌≡◌, ℕ, ◌∙◌, true, List, length, Some, refl, sym, ap, subst}
+use Rattle.std.proofs.Common.{◌≡◌, ℕ, ◌∙◌, true, false, List, length, Some, refl, sym, ap, subst}
 use Rattle.lw_payload.specs.Views.{View}
 use Rattle.lw_events.specs.declared.event.Event.{Event}
 use Rattle.lw_events.specs.declared.event.Event.TheVariants.{Stop}
 use Rattle.lw_events.specs.declared.event.Reply.{Reply}
 use Rattle.lw_events.specs.declared.event.Reply.TheVariants.{Done}
 use Rattle.lw_events.specs.declared.entry.Entry.{Entry}
+use Rattle.lw_api_msg.specs.Endpoints.{Table}
 use Rattle.lw_arp.specs.Neighbours.{packets}
 use Rattle.lw_link.specs.Sound.{IsSoundWay}
-use Rattle.lw_core.specs.declared.layers.Layers.{Layers}
-use Rattle.lw_core.specs.Calls.{call_answer, HasVariables}
+use Rattle.lw_layers.specs.declared.layers.Layers.{Layers}
+use Rattle.lw_layers.specs.Calls.{call_answer, HasVariables}
 use Rattle.lw_core.specs.Held.{CoreSeen, IsQuietStep}
-use Rattle.lw_core.specs.Input.{begun}
-use Rattle.lw_core.specs.Layers.{state_of}
-use Rattle.lw_core.specs.State.{State}
-use Rattle.lw_core.specs.Step.{Ended}
-use Rattle.lw_core.proofs.CallLaws.{answer_step, quiet_by, quiet_entry}
+use Rattle.lw_layers.specs.History.{IsStep}
+use Rattle.lw_input.specs.Input.{begun}
+use Rattle.lw_layers.specs.Layers.{state_of}
+use Rattle.lw_input.specs.State.{State}
+use Rattle.lw_layers.specs.Step.{Ended}
+use Rattle.lw_layers.proofs.CallLaws.{answer_step, quiet_by, quiet_entry}
 
 module _ {P H : Type 0} (seen : P → View) where
   abbrev pub core_of : Layers P H → CoreSeen P
@@ -30,6 +32,7 @@ module _ {P H : Type 0} (seen : P → View) where
       (record {
         step = answer_step (state_of seen l) (state_of seen m) actor event (reply, m.endpoints) r is (ap (state_of seen) rest) entry;
         short = ap (λ (x : Entry × Reply). x.0.short) entry;
+        posts = ap (λ (x : Entry × Reply). x.0.posts) entry;
         waiting = ap (λ (x : Layers P H). packets x.neighbours) rest;
         kept = ap (λ (x : Layers P H). x.fragments.kept) rest;
       })
@@ -43,6 +46,7 @@ module _ {P H : Type 0} (seen : P → View) where
       (record {
         step = quiet_by s (record s { words = record s.words { stopped = true } }) actor Stop Ended Done r refl refl entry;
         short = ap (λ (x : Entry × Reply). x.0.short) entry;
+        posts = ap (λ (x : Entry × Reply). x.0.posts) entry;
         waiting = refl;
         kept = refl;
       })
@@ -54,3 +58,7 @@ module _ {P H : Type 0} (seen : P → View) where
     subst (λ (x : Layers P H). IsSoundWay (begun (state_of seen x))) (sym rest) both.0,
     many ∙ both.1 ∙ sym (ap (λ (x : Layers P H). x.limits.variables) rest),
   )
+
+  -- where the connections and their names stayed too, nothing changed
+  pub quiet_same : (l m : Layers P H) (c : CoreSeen P) → core_of l ≡ c → m ≡ record l { endpoints = m.endpoints } → m.endpoints ≡ l.endpoints → core_of m ≡ c
+  quiet_same l m c view rest same = ap core_of rest ∙ ap (λ (e : Table). core_of (record l { endpoints = e })) same ∙ view

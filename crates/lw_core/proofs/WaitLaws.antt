@@ -6,7 +6,7 @@ use Rattle.lw_payload.specs.Totals.{total, IsOwned, Moves}
 use Rattle.lw_payload.proofs.TotalLaws.{IsOwned-moved, Moves-then}
 use Rattle.lw_arp.specs.declared.entries.ArpEntry.{ArpEntry}
 use Rattle.lw_arp.specs.Neighbours.{packets}
-use Rattle.lw_core.proofs.MoveLaws.{IsOwned-by, IsOwned-front, Moves-by, Moves-front}
+use Rattle.lw_layers.proofs.MoveLaws.{IsOwned-by, IsOwned-front, Moves-by, Moves-front}
 
 -- one more or none in front of a list
 in_front : {P : Type 0} (o : Option P) (ps : List P) → cons_option o ps ≡ option_to_list o ++ ps

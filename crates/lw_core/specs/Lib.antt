@@ -1,14 +1,3 @@
-pub mod State
-pub mod Datagrams
-pub mod Arrivals
-pub mod Input
-pub mod Outcomes
-pub mod Ticks
-pub mod Calls
-pub mod Step
-pub mod History
-pub mod Boxes
 pub mod Held
-pub mod Layers
 pub mod Requests
 pub mod Laws

@@ -1,6 +1,7 @@
 //! Laws of the serial step, in the words of its subject.
-ghost use Rattle.lw_core.specs.Laws.{ArpLaw, EchoLaw};
-ghost use Rattle.lw_core.specs.Ticks.{FragmentsLaw};
+ghost use Rattle.lw_core.specs.Laws.{ArpLaw, EchoLaw, UdpLaw};
+ghost use Rattle.lw_layers.specs.Sends.{SendLaw};
+ghost use Rattle.lw_layers.specs.Ticks.{FragmentsLaw};
 
 /// An ARP request for the own address is answered to its sender (RFC 826): the reply is the first frame
 /// that goes out.
@@ -18,4 +19,16 @@ pub fn echo_request_is_answered()
 /// not before (RFC 791, section 3.2).
 pub fn fragments_end_at_sixty_ticks()
     ensures { FragmentsLaw }
+{}
+
+/// A short datagram of a call, to a peer whose next hop is known, goes out in exactly one frame: the IPv4
+/// header, the head of UDP and the octets of the call (RFC 768).
+pub fn datagram_is_sent()
+    ensures { SendLaw }
+{}
+
+/// A datagram of UDP to the own address, for whose port there is an end, is posted to the least connection
+/// of the best class, with its data alone, and nothing is sent (RFC 768; RFC 1122, 4.1.3).
+pub fn datagram_is_delivered()
+    ensures { UdpLaw }
 {}

@@ -3,15 +3,17 @@ ghost use Rattle.std.specs.Prelude.{◌≡◌};
 ghost use Rattle.lw_events.specs.Events.{text_of};
 ghost use Rattle.lw_core.specs.Requests.{request_of};
 
-use lw_events::{Event, EventText, Proto};
+use lw_base::{Ip, Port};
+use lw_events::{Event, EventText, Proto, SendData};
 use lw_payload::Payload;
 
-/// What an event asks of a stack: to take a frame in, to let a tick pass, to make a connection of UDP, to
-/// close one, to end the run, or an answer to the event, whose text this is.
+/// What an event asks of a stack: to take a frame in, to let a tick pass, to send a datagram, to make a
+/// connection of UDP, to close one, to end the run, or an answer to the event, whose text this is.
 #[derive(Drop)]
 pub enum Request<P> {
     Feed(P),
     Tick,
+    Send(u32, Ip, Port, SendData),
     Make,
     Close(u32),
     End,
@@ -25,6 +27,7 @@ pub fn request_of<P: Payload>(event: Event<P>) -> Request<P>
     match event {
         Event::Frame(frame) => Request::Feed(frame),
         Event::Tick => Request::Tick,
+        Event::SendTo(conn, ip, port, data) => Request::Send(conn, ip, port, data),
         Event::New(Proto::Udp) => Request::Make,
         Event::New(Proto::Tcp) => Request::Answer(Event::New(Proto::Tcp)),
         Event::Close(conn) => Request::Close(conn),
@@ -33,9 +36,6 @@ pub fn request_of<P: Payload>(event: Event<P>) -> Request<P>
         Event::Connect(conn, ip, port) => Request::Answer(Event::Connect(conn, ip, port)),
         Event::Listen(conn) => Request::Answer(Event::Listen(conn)),
         Event::Write(conn, octets) => Request::Answer(Event::Write(conn, octets)),
-        Event::SendTo(conn, ip, port, data) => {
-            Request::Answer(Event::SendTo(conn, ip, port, data))
-        }
         Event::Recved(conn, count) => Request::Answer(Event::Recved(conn, count)),
         Event::Shutdown(conn) => Request::Answer(Event::Shutdown(conn)),
         Event::GetError(conn) => Request::Answer(Event::GetError(conn)),

@@ -1,5 +1,5 @@
 //! One event of the core.
-ghost use Rattle.std.specs.Prelude.{◌≡◌, [], ◌∷◌, ◌++◌, false, true, IfErr, IfOk, OnOk, OnErr, IfSome, MatchOption};
+ghost use Rattle.std.specs.Prelude.{◌≡◌, ◌⊎◌, [], ◌∷◌, ◌++◌, false, true, IfErr, IfOk, OnOk, OnErr, IfSome, MatchOption, All};
 ghost use Rattle.lw_payload.specs.declared.kinds.Kind.{Kind};
 ghost use Rattle.lw_payload.specs.Views.{IsShort};
 ghost use Rattle.lw_payload.specs.Calls.{IsSameButRoom};
@@ -8,22 +8,25 @@ ghost use Rattle.lw_events.specs.Events.{payloads_in, text_of, IsSameEvent};
 ghost use Rattle.lw_events.specs.declared.event.Event.{Event};
 ghost use Rattle.lw_events.specs.declared.event.Proto.{Proto};
 ghost use Rattle.lw_arp.specs.Neighbours.{packets};
-ghost use Rattle.lw_core.specs.State.{opening};
-ghost use Rattle.lw_core.specs.Calls.{IsAsking, IsServed};
-ghost use Rattle.lw_core.specs.History.{IsStep};
-ghost use Rattle.lw_core.specs.Boxes.{AreBoxesOf, KeepItems};
-ghost use Rattle.lw_core.specs.Held.{held_by, IsQuietStep, IsSameCore, IsTied, MakesRam, RamIsShort};
+ghost use Rattle.lw_events.specs.declared.event.Reply.{Reply as Answer};
+ghost use Rattle.lw_layers.specs.Sends.{kind_of};
+ghost use Rattle.lw_input.specs.State.{opening};
+ghost use Rattle.lw_layers.specs.Calls.{IsAsking, IsServed};
+ghost use Rattle.lw_layers.specs.History.{IsStep};
+ghost use Rattle.lw_layers.specs.Boxes.{AreBoxesOf, AreSameBoxes, KeepItems};
+ghost use Rattle.lw_layers.specs.Claims.{IsEnoughFor, IsShortFor, IsShortOf, KindIsShort, Makes, MakesPayloads};
+ghost use Rattle.lw_core.specs.Held.{held_by, IsQuietStep, IsSameCore, IsTied};
+ghost use Rattle.lw_layers.specs.Posts.{IsOffered, IsPosting};
 ghost use Rattle.lw_core.specs.Requests.{request_of};
 
 use crate::NoMemory;
-use crate::layers::{Layers, Words};
-use crate::receive::{Received, nothing, sent};
 use crate::request::{Request, request_of};
 use lw_api_msg::Endpoints;
 use lw_arp::{ArpEntry, ArpTable};
-use lw_base::{Limits, Octets};
-use lw_boxes::Boxes;
-use lw_events::{Entry, Event, EventText, PostList, Proto, Reply};
+use lw_base::{Ip, Limits, Port};
+use lw_boxes::{Boxes, Item};
+use lw_events::{Entry, Event, EventText, PostList, Proto, Reply, SendData};
+use lw_layers::{Layers, Received, Words, nothing, sent};
 use lw_netif::{Netif, Sent};
 use lw_payload::{Payload, octets_of, spend_all, spend_if};
 use lw_reass::Reass;
@@ -44,9 +47,9 @@ impl<P: Payload> Model for Core<P> {
     ghost use Rattle.lw_arp.specs.Neighbours.{packets};
     ghost use Rattle.lw_reass.specs.Table.{all_kept};
     ghost use Rattle.lw_link.specs.Sound.{IsSoundWay};
-    ghost use Rattle.lw_core.specs.Input.{begun};
-    ghost use Rattle.lw_core.specs.Calls.{HasVariables};
-    ghost use Rattle.lw_core.specs.Layers.{state_of};
+    ghost use Rattle.lw_input.specs.Input.{begun};
+    ghost use Rattle.lw_layers.specs.Calls.{HasVariables};
+    ghost use Rattle.lw_layers.specs.Layers.{state_of};
 
     ghost view = { λ c. record { state = state_of P.seen c.layers; waiting = packets c.layers.neighbours; kept = c.layers.fragments.kept } };
 
@@ -89,20 +92,22 @@ impl<P: Payload> Core<P> {
     ) -> Result<(Entry, Reply), (NoMemory, Event<P>)>
         requires served { IsServed self.old.state.limits event }
         requires owned { IsOwned (P.home_seen home.old) (total P.seen (P.home_seen home.old).pools.family (payloads_in event ++ held_by self.old)) }
-        requires ram { MakesRam (P.home_seen home.old) }
+        requires makes { MakesPayloads (P.home_seen home.old) }
         requires boxes { AreBoxesOf self.old.state.endpoints.conns (B.seen boxes.old) }
+        requires fits { (ip : Ip) (port : Port) (p : P) → (P.seen p).family ≡ (P.home_seen home.old).pools.family → B.fits (B.terms boxes.old) (Item.Datagram ip port p) }
         ensures ok { IfOk result (λ r. IsStep self.old.state actor (text_of P.seen event) r.0 r.1 self.new.state) }
-        ensures moves { OnOk result (Moves (P.home_seen home.old) (P.home_seen home.new) (total P.seen (P.home_seen home.old).pools.family (payloads_in event ++ held_by self.old)) (total P.seen (P.home_seen home.old).pools.family (held_by self.new))) }
-        ensures short { IfOk result (λ r. r.0.short ≡ true → RamIsShort P.may_refuse home.old (P.home_seen home.old)) }
-        ensures enough { IfOk result (λ r. r.0.short ≡ false → (frame : P) → event ≡ Event.Frame frame → ¬ (IsShort (P.home_seen home.old) Kind.Ram 1)) }
+        ensures posting { IfOk result (λ r. IsPosting P.seen (P.home_seen home.old) (P.home_seen home.new) r.0.posts (B.seen boxes.old) (B.seen boxes.new) (payloads_in event ++ held_by self.old) (held_by self.new)) }
+        ensures offers { IfOk result (λ r. All (IsOffered B.offers boxes.old) r.0.posts) }
+        ensures short { IfOk result (λ r. r.0.short ≡ true → IsShortFor P.may_refuse home.old (P.home_seen home.old) event) }
+        ensures enough { IfOk result (λ r. r.0.short ≡ false → IsEnoughFor (P.home_seen home.old) event r.1) }
         ensures event { IfErr result (λ r. IsSameEvent P.seen event r.1) }
         ensures err { IfErr result (λ _. IsSameCore P.seen self.old self.new × (P.home_seen home.new ≡ P.home_seen home.old)) }
+        ensures same { IfErr result (λ _. AreSameBoxes (B.seen boxes.old) (B.seen boxes.new)) }
         ensures boxes { AreBoxesOf self.new.state.endpoints.conns (B.seen boxes.new) }
-        ensures items { KeepItems (B.seen boxes.old) (B.seen boxes.new) }
-        ensures capacity { B.capacity boxes.new ≡ B.capacity boxes.old }
+        ensures terms { B.terms boxes.new ≡ B.terms boxes.old }
     {
         match request_of(event) {
-            Request::Feed(frame) => self.frame(alloc, actor, frame, home),
+            Request::Feed(frame) => self.frame(alloc, actor, frame, home, boxes),
             Request::Make => match self.make(alloc, actor, boxes) {
                 Ok(made) => Ok(made),
                 Err(none) => Err((none, Event::New(Proto::Udp))),
@@ -111,6 +116,9 @@ impl<P: Payload> Core<P> {
                 Ok(made) => Ok(made),
                 Err(none) => Err((none, Event::Tick)),
             },
+            Request::Send(conn, ip, port, given) => {
+                self.send_to(alloc, actor, home, conn, ip, port, given)
+            }
             Request::Close(conn) => Ok(self.close(alloc, actor, conn, boxes)),
             Request::End => Ok(self.end(alloc, actor)),
             Request::Answer(text) => Ok(self.answer(alloc, actor, text)),
@@ -118,28 +126,37 @@ impl<P: Payload> Core<P> {
     }
 
     // Takes a frame in.
-    fn frame(
+    fn frame<B: Boxes<P>>(
         &mut self,
         alloc: Global,
         actor: u32,
         mut frame: P,
         home: &mut P::Home,
+        boxes: &mut B,
     ) -> Result<(Entry, Reply), (NoMemory, Event<P>)>
         requires owned { IsOwned (P.home_seen home.old) (total P.seen (P.home_seen home.old).pools.family (frame ∷ held_by self.old)) }
-        requires ram { MakesRam (P.home_seen home.old) }
+        requires ram { Makes (P.home_seen home.old) Kind.Ram 1500 }
+        requires boxes { AreBoxesOf self.old.state.endpoints.conns (B.seen boxes.old) }
+        requires fits { (ip : Ip) (port : Port) (p : P) → (P.seen p).family ≡ (P.home_seen home.old).pools.family → B.fits (B.terms boxes.old) (Item.Datagram ip port p) }
         ensures ok { IfOk result (λ r. IsStep self.old.state actor (Event.Frame (P.seen frame).octets) r.0 r.1 self.new.state) }
-        ensures moves { OnOk result (Moves (P.home_seen home.old) (P.home_seen home.new) (total P.seen (P.home_seen home.old).pools.family (frame ∷ held_by self.old)) (total P.seen (P.home_seen home.old).pools.family (held_by self.new))) }
-        ensures short { IfOk result (λ r. r.0.short ≡ true → RamIsShort P.may_refuse home.old (P.home_seen home.old)) }
+        ensures posting { IfOk result (λ r. IsPosting P.seen (P.home_seen home.old) (P.home_seen home.new) r.0.posts (B.seen boxes.old) (B.seen boxes.new) (frame ∷ held_by self.old) (held_by self.new)) }
+        ensures offers { IfOk result (λ r. All (IsOffered B.offers boxes.old) r.0.posts) }
+        ensures short { IfOk result (λ r. r.0.short ≡ true → KindIsShort P.may_refuse home.old (P.home_seen home.old) Kind.Ram) }
         ensures enough { IfOk result (λ r. r.0.short ≡ false → ¬ (IsShort (P.home_seen home.old) Kind.Ram 1)) }
         ensures event { IfErr result (λ r. IsSameEvent P.seen (Event.Frame frame) r.1) }
         ensures err { IfErr result (λ _. IsSameCore P.seen self.old self.new × (P.home_seen home.new ≡ P.home_seen home.old)) }
-        ensures endpoints { self.new.state.endpoints ≡ self.old.state.endpoints }
+        ensures same { IfErr result (λ _. AreSameBoxes (B.seen boxes.old) (B.seen boxes.new)) }
+        ensures boxes { AreBoxesOf self.new.state.endpoints.conns (B.seen boxes.new) }
+        ensures terms { B.terms boxes.new ≡ B.terms boxes.old }
     {
         let octets = match octets_of(alloc, &frame) {
             Ok(octets) => octets,
             Err(none) => return Err((none, Event::Frame(frame))),
         };
-        match self.layers.receive(alloc, home, frame, octets.as_slice()) {
+        match self
+            .layers
+            .receive(alloc, home, boxes, frame, octets.as_slice())
+        {
             Ok(made) => Ok(entry(actor, Event::Frame(octets), made, Reply::Done)),
             Err((none, frame)) => Err((none, Event::Frame(frame))),
         }
@@ -165,6 +182,36 @@ impl<P: Payload> Core<P> {
         Ok(entry(actor, Event::Tick, made, reply))
     }
 
+    // Sends a datagram of a connection to an address and a port.
+    fn send_to(
+        &mut self,
+        alloc: Global,
+        actor: u32,
+        home: &mut P::Home,
+        conn: u32,
+        ip: Ip,
+        port: Port,
+        given: SendData,
+    ) -> Result<(Entry, Reply), (NoMemory, Event<P>)>
+        requires owned { IsOwned (P.home_seen home.old) (total P.seen (P.home_seen home.old).pools.family (held_by self.old)) }
+        requires makes { MakesPayloads (P.home_seen home.old) }
+        ensures ok { IfOk result (λ r. IsStep self.old.state actor (Event.SendTo conn ip port given) r.0 r.1 self.new.state) }
+        ensures moves { OnOk result (Moves (P.home_seen home.old) (P.home_seen home.new) (total P.seen (P.home_seen home.old).pools.family (held_by self.old)) (total P.seen (P.home_seen home.old).pools.family (held_by self.new))) }
+        ensures short { IfOk result (λ r. r.0.short ≡ true → IsShortOf P.may_refuse (P.home_seen home.old) (kind_of given) ⊎ IsShortOf P.may_refuse (P.home_seen home.old) Kind.Ram) }
+        ensures enough { IfOk result (λ r. r.1 ≡ Answer.Done → (¬ (IsShort (P.home_seen home.old) (kind_of given) 1)) × (¬ (IsShort (P.home_seen home.old) Kind.Ram 1))) }
+        ensures event { IfErr result (λ r. r.1 ≡ Event.SendTo conn ip port given) }
+        ensures err { OnErr result ((self.new ≡ self.old) × (P.home_seen home.new ≡ P.home_seen home.old)) }
+        ensures conns { self.new.state.endpoints.conns ≡ self.old.state.endpoints.conns }
+    {
+        match self.layers.send_to(alloc, home, conn, ip, port, &given) {
+            Ok((made, reply)) => {
+                let event = Event::SendTo(conn, ip, port, given);
+                Ok(entry(actor, event, made, reply))
+            }
+            Err(none) => Err((none, Event::SendTo(conn, ip, port, given))),
+        }
+    }
+
     // Makes a connection of UDP.
     fn make<B: Boxes<P>>(
         &mut self,
@@ -174,10 +221,10 @@ impl<P: Payload> Core<P> {
     ) -> Result<(Entry, Reply), NoMemory>
         requires boxes { AreBoxesOf self.old.state.endpoints.conns (B.seen boxes.old) }
         ensures ok { IfOk result (λ r. IsQuietStep self.old actor (Event.New Proto.Udp) r.0 r.1 self.new) }
-        ensures err { OnErr result (self.new ≡ self.old) }
+        ensures err { OnErr result ((self.new ≡ self.old) × AreSameBoxes (B.seen boxes.old) (B.seen boxes.new)) }
         ensures boxes { AreBoxesOf self.new.state.endpoints.conns (B.seen boxes.new) }
         ensures items { KeepItems (B.seen boxes.old) (B.seen boxes.new) }
-        ensures capacity { B.capacity boxes.new ≡ B.capacity boxes.old }
+        ensures terms { B.terms boxes.new ≡ B.terms boxes.old }
     {
         let reply = self.layers.new_udp(boxes)?;
         Ok(quiet(alloc, actor, Event::New(Proto::Udp), reply))
@@ -195,7 +242,7 @@ impl<P: Payload> Core<P> {
         ensures ok { IsQuietStep self.old actor (Event.Close conn) result.0 result.1 self.new }
         ensures boxes { AreBoxesOf self.new.state.endpoints.conns (B.seen boxes.new) }
         ensures items { KeepItems (B.seen boxes.old) (B.seen boxes.new) }
-        ensures capacity { B.capacity boxes.new ≡ B.capacity boxes.old }
+        ensures terms { B.terms boxes.new ≡ B.terms boxes.old }
     {
         let reply = self.layers.close(conn, boxes);
         quiet(alloc, actor, Event::Close(conn), reply)

@@ -1,8 +1,8 @@
-use Rattle.std.proofs.Common.{◌∙◌, sym, ap, subst}
-use Rattle.lw_core.specs.Calls.{IsAsking}
+use Rattle.std.proofs.Common.{◌≡◌, ◌∙◌, length, sym, ap, subst}
+use Rattle.lw_layers.specs.Calls.{IsAsking}
 use Rattle.lw_core.specs.Held.{CoreSeen}
-use Rattle.lw_core.specs.Layers.{state_of}
-use Rattle.lw_core.proofs.CallLaws.{answer_keeps}
+use Rattle.lw_layers.specs.Layers.{state_of}
+use Rattle.lw_layers.proofs.CallLaws.{answer_keeps}
 use Rattle.lw_core.proofs.QuietLaws.{quiet_answer, quiet_sound}
 use Rattle.lw_core.proofs.step.Core.answer.Goals as goal
 

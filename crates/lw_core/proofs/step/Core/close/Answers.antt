@@ -1,6 +1,6 @@
-use Rattle.std.proofs.Common.{Some, length, sym, ap}
+use Rattle.std.proofs.Common.{◌≡◌, Some, length, sym, ap}
 use Rattle.lw_events.specs.declared.event.Event.TheVariants.{Close}
-use Rattle.lw_core.proofs.CallLaws.{close_vars}
+use Rattle.lw_layers.proofs.CallLaws.{close_vars}
 use Rattle.lw_core.proofs.QuietLaws.{quiet_answer, quiet_sound}
 use Rattle.lw_core.proofs.step.Core.close.Goals as goal
 

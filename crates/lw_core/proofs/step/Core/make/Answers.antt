@@ -1,8 +1,9 @@
-use Rattle.std.proofs.Common.{Some, length, sym, ap}
+use Rattle.std.proofs.Common.{◌≡◌, Some, length, List, Option, sym, ap}
 use Rattle.lw_events.specs.declared.event.Event.TheVariants.{New}
 use Rattle.lw_events.specs.declared.event.Proto.TheVariants.{Udp}
-use Rattle.lw_core.proofs.CallLaws.{new_vars}
-use Rattle.lw_core.proofs.QuietLaws.{quiet_answer, quiet_sound}
+use Rattle.lw_api_msg.specs.Endpoints.{Table}
+use Rattle.lw_layers.proofs.CallLaws.{new_vars}
+use Rattle.lw_core.proofs.QuietLaws.{quiet_answer, quiet_same, quiet_sound}
 use Rattle.lw_core.proofs.step.Core.make.Goals as goal
 
 pub returns-clause-ok : goal.returns-clause-ok
@@ -13,7 +14,7 @@ returns-clause-ok g c =
 pub invariant_of-self : goal.invariant_of-self
 invariant_of-self g c =
     quiet_sound g.P.Payload.seen c.self.inside.layers c.new_udp.new.self c.new_udp.ensures.rest
-    (ap length (ap (λ e. e.vars) c.in_err-reply.ensures.err)) c.self.invariant
+    (ap length (ap (λ (e : Table). e.vars) c.in_err-reply.ensures.err.0)) c.self.invariant
 
 pub invariant_of-self-2 : goal.invariant_of-self-2
 invariant_of-self-2 g c =

@@ -1,4 +1,4 @@
-use Rattle.lw_core.proofs.SoundLaws.{tied}
+use Rattle.lw_core.proofs.TieLaws.{tied}
 use Rattle.lw_core.proofs.step.Core.tie.Goals as goal
 
 pub returns : goal.returns

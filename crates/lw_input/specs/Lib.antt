@@ -1,0 +1,5 @@
+pub mod State
+pub mod Datagrams
+pub mod Arrivals
+pub mod Input
+pub mod PostPlans

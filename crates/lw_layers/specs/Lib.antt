@@ -1,0 +1,10 @@
+pub mod Outcomes
+pub mod Ticks
+pub mod Calls
+pub mod Sends
+pub mod Boxes
+pub mod Posts
+pub mod Step
+pub mod History
+pub mod Claims
+pub mod Layers
