@@ -7,7 +7,8 @@
 ghost use Rattle.std.specs.Prelude.{◌≡◌, ◌+◌, [], IfOk, IsTrue};
 ghost use Rattle.lw_payload.specs.declared.kinds.Kind.{Kind};
 ghost use Rattle.lw_pbuf.specs.Homes.{home_of};
-ghost use Rattle.lw_core.specs.Held.{held_by, MakesRam};
+ghost use Rattle.lw_layers.specs.Claims.{MakesPayloads};
+ghost use Rattle.lw_core.specs.Held.{held_by};
 
 mod rounds;
 
@@ -60,7 +61,7 @@ fn stack<P: Payload>(alloc: Global) -> Result<Core<P>, AllocError>
 
 /// A seat that keeps the pbufs of POOL.
 fn seat(alloc: Global) -> Result<PoolSeat, AllocError>
-    ensures ram { IfOk result (λ s. MakesRam (home_of s)) }
+    ensures makes { IfOk result (λ s. MakesPayloads (home_of s)) }
     ensures pool { IfOk result (λ s. IsTrue ((home_of s).pools.makes Kind.Pool)) }
     ensures none { IfOk result (λ s. s.makes.made + s.makes.refused ≡ 0) }
 {
@@ -75,7 +76,7 @@ fn time_frames<P: Payload, R: Clock>(
     frames: &[Octets],
     count: u32,
 ) -> io::Result<(u128, u64)>
-    requires ram { MakesRam (P.home_seen home.old) }
+    requires makes { MakesPayloads (P.home_seen home.old) }
     requires pool { IsTrue ((P.home_seen home.old).pools.makes Kind.Pool) }
     requires none { (P.home_seen home.old).counts.made + (P.home_seen home.old).counts.refused ≡ 0 }
 {

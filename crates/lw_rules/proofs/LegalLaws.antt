@@ -5,9 +5,9 @@ use Rattle.std.proofs.lemmas.List.{length-append}
 use Rattle.std.specs.List.Sorted.{IsStrictlyIncreasing}
 use Rattle.lw_events.specs.declared.event.Event.TheVariants.{Frame, Stop as StopEvent}
 use Rattle.lw_events.specs.declared.entry.Entry.{Entry}
-use Rattle.lw_core.specs.State.{State, opening}
-use Rattle.lw_core.specs.Step.{step}
-use Rattle.lw_core.specs.History.{entry_of, granted, state_after}
+use Rattle.lw_input.specs.State.{State, opening}
+use Rattle.lw_layers.specs.Step.{step}
+use Rattle.lw_layers.specs.History.{entry_of, granted, state_after}
 use Rattle.lw_script.specs.declared.parts.Call.{Call}
 use Rattle.lw_script.specs.declared.parts.Call.TheVariants.{FeedAll, Stop}
 use Rattle.lw_script.specs.declared.parts.Script.{Script}
@@ -150,15 +150,15 @@ replayed script frames =
     let entries = entries_fed s frames ++ stop_entry s frames ∷ [] in
     record {
       numbers = numbers_of_lines 1 entries ∙ sym (count_lines 1 1 entries);
-      replay = rw (entries_back 1 entries) (replay_entries s 0 frames (stop_entry s frames ∷ []) (tt, refl, tt));
+      replay = rw (entries_back 1 entries) (replay_entries s 0 frames (stop_entry s frames ∷ []) refl (tt, refl, tt));
     }
 
 -- each event was granted all
-all_granted : (s : State) (frames : List (List ℕ)) → GrantRule (run_body s frames)
-all_granted s frames =
+all_granted : (s : State) (frames : List (List ℕ)) → s.endpoints.udp.ends ≡ [] → GrantRule (run_body s frames)
+all_granted s frames none =
     let stop = All-cons IsGranted (stop_entry s frames) [] refl (All-nil IsGranted) in
     record {
-      granted = lines_granted 1 (entries_fed s frames ++ stop_entry s frames ∷ []) (entries_granted s 0 (map Frame frames) (stop_entry s frames ∷ []) stop);
+      granted = lines_granted 1 (entries_fed s frames ++ stop_entry s frames ∷ []) (entries_granted s 0 frames (stop_entry s frames ∷ []) none stop);
     }
 
 -- the frames fed are those of the capture
@@ -196,7 +196,7 @@ legal_run script frames =
     let named = all_named s frames in
     record {
       replay = replayed script frames;
-      grants = all_granted s frames;
+      grants = all_granted s frames refl;
       driver = record { calls = driver_parts s frames };
       only = refl;
       made = calls_made s frames;

@@ -1,5 +1,5 @@
 -- Laws of histories, and of the lines that they are written as.
-use Rattle.std.proofs.Common.{ℕ, ◌≡◌, ◌+◌, ◌<◌, ◌++◌, ◌∙◌, List, [], ◌∷◌, zero, suc, length, map, sum_by, slice_get, get_or, All, Some, ap, sym, refl, arith, add-zero}
+use Rattle.std.proofs.Common.{ℕ, ◌≡◌, ◌+◌, ◌<◌, ◌++◌, ◌∙◌, Bool, false, List, [], ◌∷◌, zero, suc, length, map, sum_by, slice_get, get_or, All, Some, ap, sym, subst, refl, arith, add-zero}
 use Rattle.std.specs.List.{flat_map}
 use Rattle.std.proofs.lemmas.List.Elements.{All-nil, All-cons, All-head, All-tail}
 use Rattle.std.proofs.lemmas.List.Sums.{sum_by-cons}
@@ -8,9 +8,12 @@ use Rattle.std.specs.Prelude.{option_to_list}
 use Rattle.lw_events.specs.declared.event.Event.{Event}
 use Rattle.lw_events.specs.declared.event.Event.TheVariants.{Frame}
 use Rattle.lw_events.specs.declared.entry.Entry.{Entry}
-use Rattle.lw_core.specs.State.{State}
-use Rattle.lw_core.specs.Step.{Served, Fed, Ticked, Answered, Ended, Unserved, served, served_step, step}
-use Rattle.lw_core.specs.History.{IsReplay, entry_of, granted, state_after}
+use Rattle.lw_input.specs.State.{State}
+use Rattle.lw_layers.specs.Step.{Served, Fed, Ticked, Sends, Answered, Ended, Unserved, served, served_step, step}
+use Rattle.lw_layers.specs.History.{IsReplay, entry_of, granted, state_after}
+use Rattle.lw_layers.proofs.NoEnds.{nothing_posted_by}
+use Rattle.lw_layers.proofs.SendLaws.{send_granted}
+use Rattle.lw_events.specs.declared.entry.Post.{Post}
 use Rattle.lw_events.specs.Events.{Grants, grants_of, had_place}
 use Rattle.lw_transcript.specs.declared.lines.CoreLine.{CoreLine}
 use Rattle.lw_rules.specs.Lines.{core_lines_from, frames_sent}
@@ -22,33 +25,42 @@ pub length-entries_of : (s : State) (actor : ℕ) (events : List (Event (List �
 length-entries_of s actor [] = refl
 length-entries_of s actor (event ∷ events) = ap suc (length-entries_of (step s event granted).state actor events)
 
--- frames that are fed one after another are a replay, before any other replay
-pub replay_entries : (s : State) (actor : ℕ) (frames : List (List ℕ)) (more : List Entry) → IsReplay (state_after s (map Frame frames)) more → IsReplay s (entries_of s actor (map Frame frames) ++ more)
-replay_entries s actor [] more h = h
-replay_entries s actor (octets ∷ frames) more h = (tt, refl, replay_entries (step s (Frame octets) granted).state actor frames more h)
+-- no pool was short for what was granted all
+served_whole : (s : State) (x : Served) → (served_step s x granted).short ≡ false
+served_whole s (Fed octets) = refl
+served_whole s Ticked = refl
+served_whole s (Sends conn ip port given) = ap (λ (g : Grants). g.short) (send_granted s conn ip port given)
+served_whole s (Answered a) = refl
+served_whole s Ended = refl
+served_whole s Unserved = refl
 
--- what is served tells that it was granted all
-served_granted : (s : State) (x : Served) → record { short = (served_step s x granted).short; places = map had_place (served_step s x granted).posts } ≡ granted
-served_granted s (Fed octets) = refl
-served_granted s Ticked = refl
-served_granted s (Answered a) = refl
-served_granted s Ended = refl
-served_granted s Unserved = refl
-
--- the entry of an event that is granted all tells that it was
-pub entry_granted : (s : State) (actor : ℕ) (event : Event (List ℕ)) → grants_of (entry_of s actor event granted) ≡ granted
-entry_granted s actor event = served_granted s (served s event)
+-- the entry of an event that is granted all tells that it was, where no port has an end
+pub entry_granted : (s : State) (actor : ℕ) (event : Event (List ℕ)) → s.endpoints.udp.ends ≡ [] → grants_of (entry_of s actor event granted) ≡ granted
+entry_granted s actor event none =
+    ap (λ (b : Bool). let g : Grants = record { short = b; places = map had_place (step s event granted).posts } in g) (served_whole s (served s event))
+    ∙ ap (λ (posts : List Post). let g : Grants = record { short = false; places = map had_place posts } in g) (nothing_posted_by s event granted none)
 
 -- what an entry tells of its grants is that all was granted: no pool was short for it, and it posted nothing
 abbrev pub IsGranted : Entry → Type 0
 IsGranted e = grants_of e ≡ granted
 
--- so do all entries of events that are made one after another
-pub entries_granted : (s : State) (actor : ℕ) (events : List (Event (List ℕ))) (more : List Entry) → All IsGranted more → All IsGranted (entries_of s actor events ++ more)
-entries_granted s actor [] more rest = rest
-entries_granted s actor (event ∷ events) more rest =
-    All-cons IsGranted (entry_of s actor event granted) (entries_of (step s event granted).state actor events ++ more)
-    (entry_granted s actor event) (entries_granted (step s event granted).state actor events more rest)
+-- frames that are fed one after another are a replay, before any other replay
+pub replay_entries : (s : State) (actor : ℕ) (frames : List (List ℕ)) (more : List Entry) → s.endpoints.udp.ends ≡ [] → IsReplay (state_after s (map Frame frames)) more → IsReplay s (entries_of s actor (map Frame frames) ++ more)
+replay_entries s actor [] more none h = h
+replay_entries s actor (octets ∷ frames) more none h =
+    let all : granted ≡ grants_of (entry_of s actor (Frame octets) granted) = sym (entry_granted s actor (Frame octets) none) in (
+      tt,
+      ap (λ (g : Grants). entry_of s actor (Frame octets) g) all,
+      subst (λ (g : Grants). IsReplay (step s (Frame octets) g).state (entries_of (step s (Frame octets) granted).state actor (map Frame frames) ++ more)) all
+          (replay_entries (step s (Frame octets) granted).state actor frames more none h),
+    )
+
+-- so do all entries of frames that are fed one after another
+pub entries_granted : (s : State) (actor : ℕ) (frames : List (List ℕ)) (more : List Entry) → s.endpoints.udp.ends ≡ [] → All IsGranted more → All IsGranted (entries_of s actor (map Frame frames) ++ more)
+entries_granted s actor [] more none rest = rest
+entries_granted s actor (frame ∷ frames) more none rest =
+    All-cons IsGranted (entry_of s actor (Frame frame) granted) (entries_of (step s (Frame frame) granted).state actor (map Frame frames) ++ more)
+    (entry_granted s actor (Frame frame) none) (entries_granted (step s (Frame frame) granted).state actor frames more none rest)
 
 -- the lines tell what the entries tell
 pub lines_granted : (n : ℕ) (es : List Entry) → All IsGranted es → All (λ line. IsGranted line.entry) (core_lines_from n es)

@@ -1,14 +1,16 @@
 -- The transcript of the serial schedule is one of the grammar.
-use Rattle.std.proofs.Common.{ℕ, ◌≡◌, ◌+◌, ◌≤◌, ◌++◌, List, [], ◌∷◌, suc, length, map, All, codes, subst, sym, ap, refl, arith}
+use Rattle.std.proofs.Common.{ℕ, ◌≡◌, ◌+◌, ◌≤◌, ◌++◌, ◌∙◌, List, [], ◌∷◌, suc, length, map, All, codes, subst, sym, ap, refl, arith}
 use Rattle.std.proofs.lemmas.List.Elements.{All-nil, All-cons, All-head, All-tail}
 use Rattle.lw_base.specs.declared.addresses.Net.{Net}
 use Rattle.lw_base.specs.declared.limits.Limits.{Limits}
 use Rattle.lw_events.specs.declared.event.Event.{Event}
 use Rattle.lw_events.specs.declared.event.Event.TheVariants.{Frame, Stop as StopEvent}
 use Rattle.lw_events.specs.declared.entry.Entry.{Entry}
-use Rattle.lw_core.specs.State.{State, opening}
-use Rattle.lw_core.specs.Step.{step}
-use Rattle.lw_core.specs.History.{entry_of, granted, state_after}
+use Rattle.lw_input.specs.State.{State, opening}
+use Rattle.lw_layers.specs.Step.{step}
+use Rattle.lw_layers.specs.History.{entry_of, granted, state_after}
+use Rattle.lw_layers.proofs.NoEnds.{fed_ends, nothing_posted_by}
+use Rattle.lw_events.specs.declared.entry.Post.{Post}
 use Rattle.lw_script.specs.declared.parts.Call.{Call}
 use Rattle.lw_script.specs.declared.parts.Call.TheVariants.{FeedAll, Stop}
 use Rattle.lw_script.specs.declared.parts.Script.{Script}
@@ -31,13 +33,17 @@ pub record SendsShort (HasSound : State → Type 0) : Type 0 where
   pub short : (s : State) (event : Event (List ℕ)) → HasSound s → All IsFrame (step s event granted).frames
 
 -- lines of short frames, and then other lines
-core_short : (HasSound : State → Type 0) → SendsShort HasSound → (s : State) (n : ℕ) (frames : List (List ℕ)) (more : List Entry) → HasSound s → All IsFrame frames → ((k : ℕ) → All (IsCore One) (core_lines_from k more)) → All (IsCore One) (core_lines_from n (entries_of s 0 (map Frame frames) ++ more))
-core_short HasSound laws s n [] more sound short rest = rest n
-core_short HasSound laws s n (frame ∷ frames) more sound short rest =
+core_short : (HasSound : State → Type 0) → SendsShort HasSound → (s : State) (n : ℕ) (frames : List (List ℕ)) (more : List Entry) → HasSound s → s.endpoints.udp.ends ≡ [] → All IsFrame frames → ((k : ℕ) → All (IsCore One) (core_lines_from k more)) → All (IsCore One) (core_lines_from n (entries_of s 0 (map Frame frames) ++ more))
+core_short HasSound laws s n [] more sound none short rest = rest n
+core_short HasSound laws s n (frame ∷ frames) more sound none short rest =
     All-cons (IsCore One) (record { number = n; entry = entry_of s 0 (Frame frame) granted })
     (core_lines_from (n + 1) (entries_of (step s (Frame frame) granted).state 0 (map Frame frames) ++ more))
-    (record { event = All-head IsFrame frame frames short; posts = All-nil IsPost; frames = laws.short s (Frame frame) sound })
-    (core_short HasSound laws (step s (Frame frame) granted).state (n + 1) frames more (laws.stays s (Frame frame) sound) (All-tail IsFrame frame frames short) rest)
+    (record {
+      event = All-head IsFrame frame frames short;
+      posts = subst (λ (posts : List Post). All IsPost posts) (sym (nothing_posted_by s (Frame frame) granted none)) (All-nil IsPost);
+      frames = laws.short s (Frame frame) sound;
+    })
+    (core_short HasSound laws (step s (Frame frame) granted).state (n + 1) frames more (laws.stays s (Frame frame) sound) (fed_ends s frame granted ∙ none) (All-tail IsFrame frame frames short) rest)
 
 -- the texts of calls are words with single spaces
 text_of_call : (call : Call) → IsCallText (call_text call)
@@ -80,7 +86,7 @@ core_of_run : (HasSound : State → Type 0) → SendsShort HasSound → (script 
 core_of_run HasSound laws script frames own short =
     let s = opening script.net (limits_of script.profile) in
     let stop = entry_of (state_after s (map Frame frames)) 0 StopEvent granted in
-    core_short HasSound laws s 1 frames (stop ∷ []) (laws.begins script.net (limits_of script.profile) own) short
+    core_short HasSound laws s 1 frames (stop ∷ []) (laws.begins script.net (limits_of script.profile) own) refl short
     (λ k. All-cons (IsCore One) (record { number = k; entry = stop }) [] (record { event = tt; posts = All-nil IsPost; frames = All-nil IsFrame }) (All-nil (IsCore One)))
 
 -- the schedule of a script whose driver has the one command `feed all` gives a transcript of the grammar

@@ -6,8 +6,8 @@ use Rattle.std.specs.List.Sorted.{IsStrictlyIncreasing}
 use Rattle.lw_events.specs.declared.event.Event.{Event}
 use Rattle.lw_events.specs.declared.event.Event.TheVariants.{Frame, Stop as StopEvent}
 use Rattle.lw_events.specs.Events.{grants_of}
-use Rattle.lw_core.specs.State.{opening}
-use Rattle.lw_core.specs.History.{IsReplay, granted}
+use Rattle.lw_input.specs.State.{opening}
+use Rattle.lw_layers.specs.History.{IsReplay, granted}
 use Rattle.lw_script.specs.declared.parts.Call.{Call}
 use Rattle.lw_script.specs.declared.parts.Call.TheVariants.{FeedAll, Stop}
 use Rattle.lw_script.specs.declared.parts.Script.{Script}

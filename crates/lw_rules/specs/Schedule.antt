@@ -3,9 +3,9 @@ use Rattle.std.specs.Prelude.{ℕ, ◌+◌, List, [], ◌∷◌, ◌++◌, lengt
 use Rattle.lw_events.specs.declared.event.Event.{Event}
 use Rattle.lw_events.specs.declared.event.Event.TheVariants.{Frame, Stop as StopEvent}
 use Rattle.lw_events.specs.declared.entry.Entry.{Entry}
-use Rattle.lw_core.specs.State.{State, opening}
-use Rattle.lw_core.specs.Step.{step}
-use Rattle.lw_core.specs.History.{entry_of, granted, state_after}
+use Rattle.lw_input.specs.State.{State, opening}
+use Rattle.lw_layers.specs.Step.{step}
+use Rattle.lw_layers.specs.History.{entry_of, granted, state_after}
 use Rattle.lw_script.specs.declared.parts.Call.{Call}
 use Rattle.lw_script.specs.declared.parts.Call.TheVariants.{FeedAll, Stop}
 use Rattle.lw_script.specs.declared.parts.Script.{Script}

@@ -6,6 +6,10 @@ use Rattle.lw_payload.specs.Views.{View, HomeView}
 use Rattle.lw_payload.specs.Calls.{IsSameButRoom}
 use Rattle.lw_payload.specs.Totals.{IsOwned, IsSameTotal, IsSum, Moves, Total, total}
 use Rattle.lw_payload.proofs.TotalLaws.{IsOwned-moved, IsOwned-right, IsOwned-same, IsSameTotal-room, IsSameTotal-self, IsSum-append, IsSum-cons}
+use Rattle.lw_events.specs.declared.entry.Post.{Post}
+use Rattle.lw_boxes.specs.Shelf.{Shelf}
+use Rattle.lw_layers.specs.Posts.{IsPosting}
+use Rattle.lw_layers.proofs.PostLaws.{unposted_moves}
 use Rattle.lw_core.specs.Held.{CoreSeen, IsSameCore, held_by}
 use Rattle.lwip_run.specs.Plain.{IsAtHome, IsBody, NeverRefuses}
 
@@ -104,3 +108,12 @@ made_home seen home_seen may_refuse home made p held left owned at =
       owned = IsOwned-right k (total seen family (p ∷ held)) (total seen family (p ∷ [])) (total seen family held) (IsSum-cons seen family p held) owned;
       frames = at.frames;
     }
+
+-- what moved over an event that posted nothing
+pub posted_home : {P H : Type 0} (seen : P → View) (home_seen : H → HomeView) (may_refuse : H → H → Kind → ℕ → Type 0) (home made after : H) (before held now : List P)
+    (left : List (List ℕ)) (posts : List Post) (shelf posted : Shelf P) → IsOwned (home_seen made) (total seen (home_seen made).pools.family held)
+    → IsPosting seen (home_seen made) (home_seen after) posts shelf posted held now → posts ≡ []
+    → IsAtHome seen home_seen may_refuse home before left → IsAtHome seen home_seen may_refuse after now left
+posted_home seen home_seen may_refuse home made after before held now left posts shelf posted owned posting none at =
+    moved_home seen home_seen may_refuse home made after before held now left owned
+    (unposted_moves seen (home_seen made) (home_seen after) posts shelf posted held now none posting) at

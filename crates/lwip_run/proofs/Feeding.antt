@@ -4,9 +4,9 @@ use Rattle.std.proofs.lemmas.List.{length-append}
 use Rattle.lw_events.specs.declared.event.Event.{Event}
 use Rattle.lw_events.specs.declared.event.Event.TheVariants.{Frame}
 use Rattle.lw_events.specs.declared.entry.Entry.{Entry}
-use Rattle.lw_core.specs.State.{State}
-use Rattle.lw_core.specs.Step.{step}
-use Rattle.lw_core.specs.History.{entry_of, granted, state_after}
+use Rattle.lw_input.specs.State.{State}
+use Rattle.lw_layers.specs.Step.{step}
+use Rattle.lw_layers.specs.History.{entry_of, granted, state_after}
 use Rattle.lw_transcript.specs.declared.lines.Evidence.{Evidence}
 use Rattle.lw_transcript.specs.declared.lines.Evidence.TheVariants.{At}
 use Rattle.call_types.specs.declared.outcome.Outcome.TheVariants.{Fed}

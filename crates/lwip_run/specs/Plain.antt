@@ -2,7 +2,6 @@
 use Rattle.std.specs.Prelude.{ℕ, ◌≡◌, ◌+◌, ◌-◌, ◌++◌, ◌^◌, ◌<◌, Bool, IsTrue, List, [], ◌∷◌, length, map, All}
 use Rattle.lw_events.specs.declared.event.Event.TheVariants.{Frame}
 use Rattle.lw_payload.specs.declared.kinds.Kind.{Kind}
-use Rattle.lw_payload.specs.declared.kinds.Kind.TheVariants.{Ram, Pool}
 use Rattle.lw_payload.specs.Views.{View, HomeView, IsTooLong}
 use Rattle.lw_payload.specs.Totals.{IsOwned, total}
 use Rattle.lw_script.specs.declared.parts.Call.{Call}
@@ -17,11 +16,10 @@ use Rattle.lw_rules.specs.Schedule.{Configuration, Turn, made, named_from, turn}
 abbrev pub IsBody : List ℕ → Type 0
 IsBody octets = length octets < 2 ^ 32
 
--- Homes that make each payload that they are asked for: they make the kinds RAM and POOL, none is too long for them or is
--- refused as Empty, and their counts of POOL never end
+-- Homes that make each payload that they are asked for: they make every kind, none is too long for them or is refused as Empty,
+-- and their counts of POOL never end
 pub record NeverRefuses {H : Type 0} (home_seen : H → HomeView) (may_refuse : H → H → Kind → ℕ → Type 0) : Type 0 where
-  pub ram : (home : H) → IsTrue ((home_seen home).pools.makes Ram)
-  pub pool : (home : H) → IsTrue ((home_seen home).pools.makes Pool)
+  pub makes : (home : H) (kind : Kind) → IsTrue ((home_seen home).pools.makes kind)
   pub fits : (home : H) (kind : Kind) (n : ℕ) → ¬ IsTooLong (home_seen home) kind n
   pub full : (home after : H) (kind : Kind) (n : ℕ) → ¬ may_refuse home after kind n
   pub counts : (home : H) → (home_seen home).counts.made + (home_seen home).counts.refused < 2 ^ 64 - 1

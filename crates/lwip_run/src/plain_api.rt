@@ -1,7 +1,7 @@
 ghost use Rattle.std.specs.Prelude.{◌≡◌, ◌+◌, ◌++◌, [], ◌∷◌, All, IfOk, IfSome, List, MatchOption, OnErr, length};
 ghost use Rattle.lw_payload.specs.Totals.{IsOwned, total};
 ghost use Rattle.lw_boxes.specs.Lists.{shelf_of};
-ghost use Rattle.lw_core.specs.Boxes.{AreBoxesOf};
+ghost use Rattle.lw_layers.specs.Boxes.{AreBoxesOf};
 ghost use Rattle.lw_core.specs.Held.{held_by};
 ghost use Rattle.lw_rules.specs.Schedule.{made, named_from, turn};
 ghost use Rattle.lwip_run.specs.Plain.{FedAll, IsBody, NeverRefuses, TakesFrame};
@@ -22,7 +22,7 @@ use std::vec::IntoIter;
 
 /// The calls of a script made directly on a core over payloads, on one thread. Contracts see it as a
 /// configuration of the serial schedule; what the core holds is of its Home, and the mailboxes are those
-/// of its connections.
+/// of its connections, which have no end of UDP.
 #[derive(Drop)]
 pub struct PlainApi<P: Payload<Home: Drop>> {
     core: Core<P>,
@@ -33,9 +33,10 @@ pub struct PlainApi<P: Payload<Home: Drop>> {
 }
 
 impl<P: Payload<Home: Drop>> Model for PlainApi<P> {
+    ghost use Rattle.std.specs.Prelude.{◌≡◌, []};
     ghost use Rattle.std.specs.Vec.Iter.{into_iter_items};
     ghost use Rattle.lw_boxes.specs.Lists.{shelf_of};
-    ghost use Rattle.lw_core.specs.Boxes.{AreBoxesOf};
+    ghost use Rattle.lw_layers.specs.Boxes.{AreBoxesOf};
     ghost use Rattle.lw_core.specs.Held.{held_by};
     ghost use Rattle.lw_rules.specs.Schedule.{Configuration};
     ghost use Rattle.lwip_run.specs.Plain.{IsAtHome};
@@ -44,7 +45,7 @@ impl<P: Payload<Home: Drop>> Model for PlainApi<P> {
 
     ghost view = { λ a. record { state = a.core.state; left = into_iter_items a.left; entries = a.entries } };
 
-    ghost invariant = { λ a. IsAtHome P.seen P.home_seen P.may_refuse a.home (held_by a.core) (into_iter_items a.left) × AreBoxesOf a.core.state.endpoints.conns (shelf_of a.boxes) };
+    ghost invariant = { λ a. IsAtHome P.seen P.home_seen P.may_refuse a.home (held_by a.core) (into_iter_items a.left) × AreBoxesOf a.core.state.endpoints.conns (shelf_of a.boxes) × (a.core.state.endpoints.udp.ends ≡ []) };
 }
 
 impl<P: Payload<Home: Drop>> PlainApi<P> {
@@ -60,6 +61,7 @@ impl<P: Payload<Home: Drop>> PlainApi<P> {
         requires never { NeverRefuses P.home_seen P.may_refuse }
         requires held { held_by core ≡ [] }
         requires boxes { AreBoxesOf core.state.endpoints.conns (shelf_of boxes) }
+        requires none { core.state.endpoints.udp.ends ≡ [] }
         requires short { All IsBody frames }
         ensures { result ≡ record { state = core.state; left = frames; entries = [] } }
     {

@@ -1,10 +1,7 @@
-use Rattle.std.proofs.Common.{◌≡◌, ◌∙◌, [], length, subst, sym, ap}
+use Rattle.std.proofs.Common.{◌≡◌, ◌∙◌, [], ap}
 use Rattle.lw_base.specs.declared.addresses.Net.{Net}
 use Rattle.lw_base.specs.declared.limits.Limits.{Limits}
-use Rattle.lw_boxes.specs.Lists.{AllBoxes, shelf_of}
-use Rattle.lw_core.specs.Boxes.{AreBoxesOf}
-use Rattle.lw_core.specs.State.{State, opening}
-use Rattle.lw_core.proofs.BoxLaws.{no_box}
+use Rattle.lw_input.specs.State.{State, opening}
 use Rattle.lw_script.specs.Parts.{limits_of}
 use Rattle.lw_rules.specs.Schedule.{Configuration, beginning}
 use Rattle.lwip_run.proofs.OneThread.{run_is_serial}
@@ -27,8 +24,3 @@ returns g c =
 
 pub new-api-requires-clause-short : goal.new-api-requires-clause-short
 new-api-requires-clause-short g c = frames_bodies c.args.frames c.requires.short
-
-pub new-api-requires-clause-boxes : goal.new-api-requires-clause-boxes
-new-api-requires-clause-boxes g c =
-    subst (λ cs. AreBoxesOf cs (shelf_of c.new-boxes.result)) (sym (ap (λ (s : State). s.endpoints.conns) c.in_ok-core.ensures.state))
-    (no_box (shelf_of c.new-boxes.result) (ap (λ (b : AllBoxes g.row.P.Denot). length b.boxes) c.new-boxes.ensures))

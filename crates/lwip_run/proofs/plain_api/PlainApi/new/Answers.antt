@@ -11,4 +11,5 @@ invariant_of-result g c =
       begins_home payload.seen payload.home_seen payload.may_refuse c.args.home (held_by c.args.core) (into_iter_items c.into_iter.result)
           c.requires.never c.requires.held (subst (λ (frames : List (List ℕ)). All IsBody frames) (sym (c.into_iter.ensures.rest ∙ c.into_vec.ensures)) c.requires.short),
       c.requires.boxes,
+      c.requires.none,
     )

@@ -10,4 +10,5 @@ invariant_of-self g c = (
     frames = rest_bodies c.next.result (into_iter_items c.self.inside.left) (into_iter_items c.next.new.self) c.next.ensures.items c.self.invariant.0.frames;
   },
   c.self.invariant.1,
+  c.self.invariant.2,
 )
