@@ -98,5 +98,5 @@ module _ {C V L : Type 0} (t : Named (Service L)) (n : ℕ) where
   puts_many [] h = absurd h
   puts_many (p ∷ ps) h = h.2
 
-  pub server_new : (get : Receiver (Task C V) (Service L)) (seats : List (SeatSeen (LineKey (Named (Service L))))) → get ≡ record { table = t.table; key = Some t.key; others = n - 1; given = [] } → 0 < n → length seats ≡ n → AreNew t.table (Some t.key) seats → IsServer get seats false
+  pub server_new : (get : Receiver (Task C V) (Service L)) (seats : List (SeatSeen (LineKey (Named (Service L))))) → get ≡ record { table = t.table; key = Some t.key; others = n - 1; given = []; back = [] } → 0 < n → length seats ≡ n → AreNew t.table (Some t.key) seats → IsServer get seats false
   server_new get seats is some many new = subst (λ (r : Receiver (Task C V) (Service L)). IsServer r seats false) (sym is) (record { many = omega arith; each = λ line s found. new line s found; ended = λ e. absurd (not_both e) })

@@ -3,25 +3,37 @@ use Rattle.std.proofs.Common.{◌≡◌, ◌≢◌, ◌⊎◌, ℕ, ◌+◌, ◌
 use Rattle.std.proofs.lemmas.Bool.Decides.{nat_tests}
 use Rattle.std.proofs.lemmas.List.Elements.{All-weaker}
 use mathlib.Core.Option.{some, some-injective, some-ne-none}
+use mathlib.Core.Logic.{dite}
+use native.Mathlib.Decide.{ℕ_discrete}
 use lib.ListN.{get_elem?}
-use Rattle.crossbeam_queue.proofs.Lists.{at_set, at_snoc}
+use Rattle.crossbeam_queue.proofs.Lists.{at_set, at_snoc, set_else}
 use Rattle.tcpip_mbox.specs.declared.view.Letter.{Letter}
+use Rattle.tcpip_mbox.specs.declared.view.Returned.{Returned}
 use Rattle.tcpip_mbox.specs.declared.view.View.{View}
-use Rattle.tcpip_mbox.specs.Letters.{sent_by, Fitting}
+use Rattle.tcpip_mbox.specs.Letters.{sent_by, Fitting, returns, AllOf}
 use Rattle.tcpip_mbox.specs.Views.{firstborn}
 use Rattle.tcpip_mbox.specs.Rule.{up_to, getters_in, putters_in, Sends, Knows, Kept, Ruled}
-use Rattle.tcpip_mbox.proofs.Counts.{sum-set, sum-snoc, two_at_most_sum}
-use Rattle.tcpip_mbox.proofs.Letters.{prefix_more, prefix_length, sent_by-else, sent_by-prefix}
+use Rattle.tcpip_mbox.proofs.Counts.{sum-set, sum-snoc, at_most_sum, two_at_most_sum}
+use Rattle.tcpip_mbox.proofs.Letters.{prefix_more, prefix_length, sent_by-else, sent_by-prefix, none_back, AllOf-else}
 
 pub up_to-le : (most n : ℕ) → up_to most n ≤ 1
 up_to-le most n = grind (arith, nat_tests)
+
+module _ {M : Type 0} where
+  -- what was put in by those that were taken back, as a message of another joins the others
+  pub backs_pushed : (given items : List (Letter M)) (x : Letter M) (bs : List (Returned M)) → All (λ (b : Returned M). b.number ≢ x.from) bs → AllOf (given ++ items) bs → AllOf (given ++ (items ++ x ∷ [])) bs
+  backs_pushed given items x bs apart h = subst (λ (l : List (Letter M)). AllOf l bs) (append_assoc given items (x ∷ [])) (AllOf-else (given ++ items) x bs apart h)
+
+  -- and as a message is given
+  pub backs_popped : (given items : List (Letter M)) (x : Letter M) (bs : List (Returned M)) → AllOf (given ++ (x ∷ items)) bs → AllOf ((given ++ x ∷ []) ++ items) bs
+  backs_popped given items x bs h = subst (λ (l : List (Letter M)). AllOf l bs) (sym (append_assoc given (x ∷ []) items)) h
 
 module _ {M K : Type 0} where
   pub one_getter : (v : View M K) → v.gets ≡ true → getters_in v ≡ 1
   one_getter v h = ap (λ (b : Bool). let k : ℕ = cond b 1 0 in k) h
 
-  pub one_putter : (n : ℕ) (v : View M K) → v.puts ≡ true → v.number ≡ n → putters_in n v ≡ 1
-  one_putter n v h is = ap (λ (b : Bool). let k : ℕ = cond b (cond (eqb v.number n) 1 0) 0 in k) h ∙ ap (λ (b : Bool). let k : ℕ = cond b 1 0 in k) (eq-eqb v.number n is)
+  pub one_putter : (n : ℕ) (v : View M K) → v.puts ≡ true → v.number ≡ n → putters_in n v ≡ 1 + returns n v.back
+  one_putter n v h is = ap (λ (k : ℕ). k + returns n v.back) (ap (λ (b : Bool). let k : ℕ = cond b (cond (eqb v.number n) 1 0) 0 in k) h ∙ ap (λ (b : Bool). let k : ℕ = cond b 1 0 in k) (eq-eqb v.number n is))
 
   -- a pass that knows the key is none of the first moment
   unkeyed : (i : ℕ) (v : View M K) (key : K) → get_elem? (firstborn {M = M} {K = K} ∷ []) i ≡ some v → v.key ≡ Some key → ⊥
@@ -36,6 +48,12 @@ module _ {M K : Type 0} where
       -- no other pass is a Put of this number
       pub other_putter : v.puts ≡ true → (j : ℕ) (u : View M K) → j ≢ port → get_elem? views j ≡ some u → u.puts ≡ true → u.number ≢ v.number
       other_putter h j u ne e p is = absurd (omega (arith, two_at_most_sum (putters_in v.number) views port j v u ne at e, r.putters v.number, up_to-le r.others v.number, one_putter v.number v h refl, one_putter v.number u p is))
+
+      -- no pass has taken a Put of this number back
+      pub none_returned : v.puts ≡ true → (j : ℕ) (u : View M K) → get_elem? views j ≡ some u → All (λ (b : Returned M). b.number ≢ v.number) u.back
+      none_returned h j u e = none_back v.number u.back (dite (ℕ_discrete j port)
+          (λ (is : j ≡ port). let same : v ≡ u = some-injective v u (sym at ∙ (ap (λ (i : ℕ). get_elem? views i) (sym is) ∙ e)) in let n = ap (λ (w : View M K). returns v.number w.back) same in omega (arith, at_most_sum (putters_in v.number) views port v at, r.putters v.number, up_to-le r.others v.number, one_putter v.number v h refl))
+          (λ ne. omega (arith, two_at_most_sum (putters_in v.number) views port j v u ne at e, r.putters v.number, up_to-le r.others v.number, one_putter v.number v h refl)))
 
       -- no other pass is a Get
       pub other_getter : v.gets ≡ true → (j : ℕ) (u : View M K) → j ≢ port → get_elem? views j ≡ some u → u.gets ≡ true → ⊥
@@ -79,9 +97,29 @@ module _ {M K : Type 0} where
                 (λ (s : (j ≢ port) × (get_elem? views j ≡ some u)). others j u s.0 s.1) (at_set views port j left u t)) (λ (t : right ≡ u). subst (Knows r.key r.given items others') t newer) (at_snoc (set views port left) right u j e);
           }
 
+      -- the pass takes in another, of the view w
+      pub joins : (other : ℕ) (w : View M K) → get_elem? views other ≡ some w → other ≢ port → (both spent : View M K) → getters_in both + getters_in spent ≤ getters_in v + getters_in w
+          → ((n : ℕ) → putters_in n both + putters_in n spent ≤ putters_in n v + putters_in n w) → Knows r.key r.given items r.others both → Knows r.key r.given items r.others spent
+          → Kept fits items (set (set views port both) other spent)
+      joins other w there apart both spent gets puts mine theirs =
+          let there' : get_elem? (set views port both) other ≡ some w = set_else views port other both apart ∙ there in
+          let adds : (f : View M K → ℕ) → sum_by f (set (set views port both) other spent) + f v + f w ≡ sum_by f views + f both + f spent = λ f. omega (arith, sum-set f views port v both at, sum-set f (set views port both) other w spent there') in record {
+            key = r.key;
+            given = r.given;
+            others = r.others;
+            getters = let few = r.getters in omega (arith, adds getters_in);
+            putters = λ n. omega (arith, adds (putters_in n), r.putters n, puts n);
+            numbers = r.numbers;
+            single = r.single;
+            fit = r.fit;
+            each = λ j u e. ⊎_elim (λ (t : (j ≡ other) × (spent ≡ u)). subst (Knows r.key r.given items r.others) t.1 theirs)
+                (λ (t : (j ≢ other) × (get_elem? (set views port both) j ≡ some u)). ⊎_elim (λ (s : (j ≡ port) × (both ≡ u)). subst (Knows r.key r.given items r.others) s.1 mine)
+                (λ (s : (j ≢ port) × (get_elem? views j ≡ some u)). r.each j u s.1) (at_set views port j both u t.1)) (at_set (set views port both) other j spent u e);
+          }
+
   -- what another pass knows as a message joins the others
-  pub knows_pushed : (key : K) (given items : List (Letter M)) (others : ℕ) (x : Letter M) (u : View M K) → (u.puts ≡ true → x.from ≢ u.number) → Knows key given items others u → Knows key given (items ++ x ∷ []) others u
-  knows_pushed key given items others x u other k = record {
+  pub knows_pushed : (key : K) (given items : List (Letter M)) (others : ℕ) (x : Letter M) (u : View M K) → (u.puts ≡ true → x.from ≢ u.number) → All (λ (b : Returned M). b.number ≢ x.from) u.back → Knows key given items others u → Knows key given (items ++ x ∷ []) others u
+  knows_pushed key given items others x u other apart k = record {
     put_key = k.put_key;
     get_key = k.get_key;
     sends = λ p. let s = k.sends p in record {
@@ -92,6 +130,7 @@ module _ {M K : Type 0} where
     };
     gets = k.gets;
     hears = k.hears;
+    backs = backs_pushed given items x u.back apart k.backs;
   }
 
   -- what a Put knows as a message is given
@@ -111,4 +150,5 @@ module _ {M K : Type 0} where
     sends = λ p. sends_popped given items others x u (k.sends p);
     gets = λ g. absurd (never g);
     hears = prefix_more u.given given (x ∷ []) k.hears;
+    backs = backs_popped given items x u.back k.backs;
   }

@@ -4,7 +4,8 @@ use Rattle.std.proofs.lemmas.Bool.Decides.{nat_tests}
 use Rattle.std.proofs.lemmas.List.Elements.{All-nil, All-cons, All-head, All-tail}
 use mathlib.Core.List.{IsPrefix}
 use Rattle.tcpip_mbox.specs.declared.view.Letter.{Letter}
-use Rattle.tcpip_mbox.specs.Letters.{sent_by, Fitting}
+use Rattle.tcpip_mbox.specs.declared.view.Returned.{Returned}
+use Rattle.tcpip_mbox.specs.Letters.{sent_by, Fitting, returns, AllOf}
 
 module _ {E : Type 0} where
   pub prefix_same : (xs ys : List E) → xs ≡ ys → IsPrefix xs ys
@@ -98,3 +99,23 @@ module _ {M : Type 0} where
   -- where one message at most lies of each Put but the first, those that lie are at most the first's and one of each other
   pub few_lie : (n : ℕ) (xs : List (Letter M)) → All (λ (x : Letter M). x.from ≤ n) xs → ((k : ℕ) → k ≢ 0 → length (sent_by k xs) ≤ 1) → length xs ≤ length (sent_by 0 xs) + n
   few_lie n xs all one = omega (arith, upto-all n xs all, few n xs one)
+
+  -- where nothing lies in the queue, all was given
+  pub none_left : (given items : List (Letter M)) (bs : List (Returned M)) → length items ≡ 0 → AllOf (given ++ items) bs → AllOf given bs
+  none_left given [] bs h a = subst (λ (l : List (Letter M)). AllOf l bs) (append-nil given) a
+  none_left given (x ∷ xs) bs h a = absurd (omega arith)
+
+  pub returns-append : (n : ℕ) (bs cs : List (Returned M)) → returns n (bs ++ cs) ≡ returns n bs + returns n cs
+  returns-append n [] cs = omega arith
+  returns-append n (b ∷ bs) cs = let rest = returns-append n bs cs in omega arith
+
+  -- where no Put of this number was taken back, each that was has another
+  pub none_back : (n : ℕ) (bs : List (Returned M)) → returns n bs ≡ 0 → All (λ (b : Returned M). b.number ≢ n) bs
+  none_back n [] h = All-nil (λ (b : Returned M). b.number ≢ n)
+  none_back n (b ∷ bs) h = All-cons (λ (b : Returned M). b.number ≢ n) b bs (λ is. let one : ◌≡◌ {A = ℕ} (cond (eqb b.number n) 1 0) 1 = ap (λ (c : Bool). let k : ℕ = cond c 1 0 in k) (eq-eqb b.number n is) in absurd (omega arith)) (none_back n bs (omega arith))
+
+  -- a letter of another Put joins
+  pub AllOf-else : (letters : List (Letter M)) (x : Letter M) (bs : List (Returned M)) → All (λ (b : Returned M). b.number ≢ x.from) bs → AllOf letters bs → AllOf (letters ++ x ∷ []) bs
+  AllOf-else letters x [] other h = All-nil (λ (b : Returned M). sent_by b.number (letters ++ x ∷ []) ≡ b.sent)
+  AllOf-else letters x (b ∷ bs) other h = let N : Returned M → Type 0 = λ (b : Returned M). b.number ≢ x.from in let P : Returned M → Type 0 = λ (b : Returned M). sent_by b.number letters ≡ b.sent in
+      All-cons (λ (b : Returned M). sent_by b.number (letters ++ x ∷ []) ≡ b.sent) b bs (sent_by-else b.number letters x (λ is. All-head N b bs other (sym is)) ∙ All-head P b bs h) (AllOf-else letters x bs (All-tail N b bs other) (All-tail P b bs h))

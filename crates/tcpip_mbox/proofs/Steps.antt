@@ -8,12 +8,13 @@ use native.Mathlib.Decide.{ℕ_discrete}
 use lib.ListN.{get_elem?}
 use Rattle.crossbeam_queue.specs.Fifo.{Pushes, Pops, Learns}
 use Rattle.tcpip_mbox.specs.declared.view.Letter.{Letter}
+use Rattle.tcpip_mbox.specs.declared.view.Returned.{Returned}
 use Rattle.tcpip_mbox.specs.declared.view.View.{View}
-use Rattle.tcpip_mbox.specs.Letters.{sent_by}
+use Rattle.tcpip_mbox.specs.Letters.{sent_by, AllOf}
 use Rattle.tcpip_mbox.specs.Views.{sent_one, got_one}
 use Rattle.tcpip_mbox.specs.Rule.{Sends, Kept, Ruled}
 use Rattle.tcpip_mbox.proofs.Letters.{prefix_same, All-append, All-back, no-elements, sent_by-append, sent_by-same, sent_by-else, sent_by-prefix, Fitting-push, few_lie}
-use Rattle.tcpip_mbox.proofs.Keeps.{begun, other_putter, other_getter, key_is, moves, knows_pushed, sends_popped, knows_popped}
+use Rattle.tcpip_mbox.proofs.Keeps.{begun, other_putter, other_getter, key_is, none_returned, moves, backs_pushed, backs_popped, knows_pushed, sends_popped, knows_popped}
 
 module _ {M K : Type 0} (fits : K → ℕ → List M → M → Type 0) where
   module _ (port : ℕ) (v : View M K) (x : Letter M) (key : K) (puts : v.puts ≡ true) (keyed : v.key ≡ Some key) (from : x.from ≡ v.number) (fit : fits key v.number v.sent x.message) (known : v.number ≢ 0 → v.known ≡ length v.sent) where
@@ -30,7 +31,9 @@ module _ {M K : Type 0} (fits : K → ℕ → List M → M → Type 0) where
         (λ other. let e = ap length (sent_by-else n items x other) in omega (arith, r.single n ne))
 
     pushed : (items : List (Letter M)) (views : List (View M K)) → Kept fits items views → get_elem? views port ≡ some v → Kept fits (items ++ x ∷ []) (set views port (sent_one v x))
-    pushed items views r at = let k = r.each port v at in let s = k.sends puts in let key_same : r.key ≡ key = key_is fits items views r port v at key (inl puts) keyed in
+    pushed items views r at = let k = r.each port v at in let s = k.sends puts in
+        let apart : (j : ℕ) (u : View M K) → get_elem? views j ≡ some u → All (λ (b : Returned M). b.number ≢ x.from) u.back =
+        λ j u e. subst (λ (n : ℕ). All (λ (b : Returned M). b.number ≢ n) u.back) (sym from) (none_returned fits items views r port v at puts j u e) in let key_same : r.key ≡ key = key_is fits items views r port v at key (inl puts) keyed in
         moves fits items views r port v at (sent_one v x) r.given (items ++ x ∷ []) (omega arith) (λ n. omega arith)
         (subst (λ (l : List (Letter M)). All (λ (y : Letter M). y.from ≤ r.others) l) (append_assoc r.given items (x ∷ []))
         (All-append (λ (y : Letter M). y.from ≤ r.others) (r.given ++ items) (x ∷ []) r.numbers (All-cons (λ (y : Letter M). y.from ≤ r.others) x [] (let below = s.below in omega arith) (All-nil (λ (y : Letter M). y.from ≤ r.others)))))
@@ -48,8 +51,9 @@ module _ {M K : Type 0} (fits : K → ℕ → List M → M → Type 0) where
           };
           gets = k.gets;
           hears = k.hears;
+          backs = backs_pushed r.given items x v.back (apart port v at) k.backs;
         }
-        (λ j u ne e. knows_pushed r.key r.given items r.others x u (λ p is. other_putter fits items views r port v at puts j u ne e p (sym is ∙ from)) (r.each j u e))
+        (λ j u ne e. knows_pushed r.key r.given items r.others x u (λ p is. other_putter fits items views r port v at puts j u ne e p (sym is ∙ from)) (apart j u e) (r.each j u e))
 
     pub pushes : (n : ℕ) → Pushes (Ruled fits) n port v x (λ w. w ≡ sent_one v x)
     pushes n items views room h at = (sent_one v x, inr (pushed items views (begun fits items views port v key at keyed h) at), refl)
@@ -67,6 +71,7 @@ module _ {M K : Type 0} (fits : K → ℕ → List M → M → Type 0) where
           sends = λ p. let s = sends_popped given items r.others x v (k.sends p) in record { all = s.all; below = s.below; first = s.first; known = s.known };
           gets = λ g. (ap (λ (l : List (Letter M)). l ++ x ∷ []) (k.gets g).0, (k.gets g).1);
           hears = prefix_same (v.given ++ x ∷ []) (given ++ x ∷ []) (ap (λ (l : List (Letter M)). l ++ x ∷ []) (k.gets gets).0);
+          backs = backs_popped given items x v.back k.backs;
         }
         (λ j u ne e. knows_popped r.key given items r.others x u (other_getter fits (x ∷ items) views r port v at gets j u ne e) (r.each j u e))
 
@@ -81,6 +86,11 @@ module _ {M K : Type 0} (fits : K → ℕ → List M → M → Type 0) where
             (subst (λ (l : List (Letter M)). fits r.key x.from (sent_by x.from l) x.message) (sym ((r.each port v at).gets gets).0) r.fit.0),
       ),
     )
+
+    -- all that the Puts which were taken back had put in was given, or lies in the queue
+    pub emptied : v.gets ≡ true → Learns (Ruled fits) port v (λ items. AllOf (v.given ++ items) v.back)
+    emptied gets items views h at = let r : Kept fits items views = begun fits items views port v key at keyed h in let k = r.each port v at in
+        subst (λ (l : List (Letter M)). AllOf (l ++ items) v.back) (sym (k.gets gets).0) k.backs
 
     -- where so many messages lie, the first Put's and one of each other are as many
     pub fullness : v.puts ≡ true → Learns (Ruled fits) port v (λ items. v.number ≡ 0 → length items + v.known ≤ length v.sent + v.others)

@@ -1,11 +1,11 @@
 -- The rule of the mailbox's queue: what holds between any two steps.
-use Rattle.std.specs.Prelude.{◌≡◌, ◌≢◌, ◌⊎◌, ℕ, ◌≤◌, ◌==◌, ltb, cond, All, sum_by, true, List, [], ◌∷◌, ◌++◌, length, Some}
+use Rattle.std.specs.Prelude.{◌≡◌, ◌≢◌, ◌⊎◌, ℕ, ◌+◌, ◌≤◌, ◌==◌, ltb, cond, All, sum_by, true, List, [], ◌∷◌, ◌++◌, length, Some}
 use mathlib.Core.Option.{some}
 use mathlib.Core.List.{IsPrefix}
 use lib.ListN.{get_elem?}
 use Rattle.tcpip_mbox.specs.declared.view.Letter.{Letter}
 use Rattle.tcpip_mbox.specs.declared.view.View.{View}
-use Rattle.tcpip_mbox.specs.Letters.{sent_by, Fitting}
+use Rattle.tcpip_mbox.specs.Letters.{sent_by, Fitting, returns, AllOf}
 use Rattle.tcpip_mbox.specs.Views.{firstborn}
 
 -- 1 for a number that is at most the other
@@ -17,9 +17,9 @@ module _ {M K : Type 0} where
   abbrev pub getters_in : View M K → ℕ
   getters_in v = cond v.gets 1 0
 
-  -- 1 for the pass of the Put n
+  -- 1 for the pass of the Put n, or for the one that took it back
   abbrev pub putters_in : ℕ → View M K → ℕ
-  putters_in n v = cond v.puts (cond (v.number == n) 1 0) 0
+  putters_in n v = cond v.puts (cond (v.number == n) 1 0) 0 + returns n v.back
 
   -- what a Put knows
   pub record Sends (given items : List (Letter M)) (others : ℕ) (v : View M K) : Type 0 where
@@ -35,8 +35,9 @@ module _ {M K : Type 0} where
     pub sends : v.puts ≡ true → Sends given items others v
     pub gets : v.gets ≡ true → (v.given ≡ given) × (v.others ≡ others)
     pub hears : IsPrefix v.given given
+    pub backs : AllOf (given ++ items) v.back
 
-  -- There is one Get at most and one Put of each number up to `others`. Of each Put but the first at most one message lies in the queue
+  -- There is one Get at most and one Put of each number up to `others`, which may have been taken back. Of each Put but the first at most one message lies in the queue
   pub record Kept (fits : K → ℕ → List M → M → Type 0) (items : List (Letter M)) (views : List (View M K)) : Type 0 where
     pub key : K
     pub given : List (Letter M)

@@ -3,6 +3,7 @@ use Rattle.std.specs.Prelude.{◌≡◌, ℕ, ◌+◌, ◌-◌, true, false, Lis
 use Rattle.atomic_table.specs.Seated.{TableId}
 use Rattle.crossbeam_queue.specs.Passes.{Pass, view}
 use Rattle.tcpip_mbox.specs.declared.view.Letter.{Letter}
+use Rattle.tcpip_mbox.specs.declared.view.Returned.{Returned}
 use Rattle.tcpip_mbox.specs.declared.view.View.{View}
 use Rattle.tcpip_mbox.specs.Views.{teller}
 
@@ -25,12 +26,13 @@ pub record Sender (M K : Type 0) : Type 0 where
   pub sent : List M
   pub known : ℕ
 
--- the Get: the number of the Puts but the first, and what it gave, oldest first
+-- the Get: the number of the Puts but the first, what it gave, oldest first, and the Puts that it took back
 pub record Receiver (M K : Type 0) : Type 0 where
   pub table : TableId
   pub key : Option K
   pub others : ℕ
   pub given : List (Letter M)
+  pub back : List (Returned M)
 
 -- a note of what the Get gave
 pub record Noted (M : Type 0) : Type 0 where
@@ -61,7 +63,7 @@ module _ {M K : Type 0} where
   sender_at p number = let v : View M K = view p in record { table = p.table_id; key = v.key; number = number; others = v.others; sent = v.sent; known = v.known }
 
   abbrev pub receiver_at : Pass (Letter M) (View M K) → Receiver M K
-  receiver_at p = record { table = p.table_id; key = (view p).key; others = (view p).others; given = (view p).given }
+  receiver_at p = record { table = p.table_id; key = (view p).key; others = (view p).others; given = (view p).given; back = (view p).back }
 
   abbrev pub noted_at : Pass (Letter M) (View M K) → Noted M
   noted_at p = record { table = p.table_id; given = (view p).given }
@@ -72,7 +74,7 @@ module _ {M K : Type 0} where
 
   -- the pass is the Get's
   abbrev pub IsGetting : Pass (Letter M) (View M K) → Type 0
-  IsGetting p = (p.me.1 ≡ []) × ((view p).gets ≡ true)
+  IsGetting p = (p.me.1 ≡ []) × ((view p).puts ≡ false) × ((view p).gets ≡ true)
 
   -- the pass is a note, which may neither put in nor take out
   abbrev pub IsNote : Pass (Letter M) (View M K) → Type 0

@@ -18,4 +18,4 @@ pub use mbox::TcpipMbox;
 pub use message::Message;
 pub use put::Put;
 pub use std::alloc::AllocError as NoMemory;
-pub use view::Letter;
+pub use view::{Letter, Returned};

@@ -2,15 +2,15 @@
 ghost use Rattle.std.specs.Prelude.{◌≡◌, ◌≢◌, ℕ, ◌+◌, ◌-◌, ◌<◌, ◌≤◌, [], ◌∷◌, ◌++◌, length, max, vec_capacity, Some, IfOk, IfErr, OnOk, IfSome, IfNone};
 ghost use mathlib.Core.List.{IsPrefix};
 ghost use Rattle.crossbeam_queue.specs.Passes.{view, IsPassOf, ruled_capacity};
-ghost use Rattle.tcpip_mbox.specs.Letters.{sent_by};
-ghost use Rattle.tcpip_mbox.specs.Views.{both_ways, firstborn};
+ghost use Rattle.tcpip_mbox.specs.Letters.{sent_by, AllOf};
+ghost use Rattle.tcpip_mbox.specs.Views.{both_ways, firstborn, returned};
 ghost use Rattle.tcpip_mbox.specs.Tokens.{IsOf, letter, AreNumbered, ArePuts};
 
 use crate::bell::{BEGUN, Bell};
 use crate::get::Get;
 use crate::given::Given;
 use crate::message::Message;
-use crate::plays::{Got, Hire, Keyed, Meet, Part, Picks, Sent, Tell, Told};
+use crate::plays::{Gather, Got, Hire, Keyed, Meet, Part, Picks, Sent, Tell, Told};
 use crate::put::Put;
 use crate::rule::{Place, Queue};
 use crate::shown::Shown;
@@ -95,7 +95,7 @@ impl<M: Message<K>, K> TcpipMbox<M, K> {
         requires { (0 < places) × (0 < lines) }
         ensures mbox { IfOk result (λ r. (r.0.places ≡ places) × (r.0.key ≡ key.now)) }
         ensures puts { IfOk result (λ r. ArePuts r.0 lines r.1.items) }
-        ensures get { IfOk result (λ r. r.2 ≡ record { table = r.0.table; key = Some key.now; others = lines - 1; given = [] }) }
+        ensures get { IfOk result (λ r. r.2 ≡ record { table = r.0.table; key = Some key.now; others = lines - 1; given = []; back = [] }) }
     {
         let mut puts = Vec::with_capacity(alloc, lines as usize)?;
         let (queue, first) = Queue::<M, K>::ruled(alloc, places as usize)?;
@@ -159,12 +159,15 @@ impl<M: Message<K>, K> TcpipMbox<M, K> {
         unreachable!()
     }
 
-    /// Takes the oldest message out. None only where the mailbox was empty at a moment of the call.
+    /// Takes the oldest message out. None only where the mailbox was empty at a moment of the call: all that the Puts which were taken back
+    /// had put in was given then.
     pub fn get<R: Wait>(&self, rt: &R, get: &mut Get<M, K>) -> Option<M>
         requires own { IsOf self.now get.old.table get.old.key }
         ensures same { (get.new.table ≡ get.old.table) × (get.new.key ≡ get.old.key) × (get.new.others ≡ get.old.others) }
+        ensures back { get.new.back ≡ get.old.back }
         ensures some { IfSome result (λ m. (n : ℕ) × (n ≤ get.old.others) × M.fits self.now.key n (sent_by n get.old.given) m × (get.new.given ≡ get.old.given ++ letter n m ∷ [])) }
         ensures none { IfNone result (get.new ≡ get.old) }
+        ensures empty { IfNone result (AllOf get.old.given get.old.back) }
     {
         let letter = self.queue.pop_as::<Got, R>(rt, &mut get.pass)?;
         let Letter { from: _, message } = letter;
@@ -176,6 +179,7 @@ impl<M: Message<K>, K> TcpipMbox<M, K> {
     pub fn fetch<R: Wait>(&self, rt: &R, get: &mut Get<M, K>) -> M
         requires own { IsOf self.now get.old.table get.old.key }
         ensures same { (get.new.table ≡ get.old.table) × (get.new.key ≡ get.old.key) × (get.new.others ≡ get.old.others) }
+        ensures back { get.new.back ≡ get.old.back }
         ensures got { (n : ℕ) × (n ≤ get.old.others) × M.fits self.now.key n (sent_by n get.old.given) result × (get.new.given ≡ get.old.given ++ letter n result ∷ []) }
     {
         let mut watch = BEGUN;
@@ -213,10 +217,11 @@ impl<M: Message<K>, K> TcpipMbox<M, K> {
     pub fn gather(&self, get: &mut Get<M, K>, mut put: Put<M, K>)
         requires own { IsOf self.now get.old.table get.old.key }
         requires put { IsOf self.now put.table put.key }
-        ensures same { get.new ≡ get.old }
+        ensures back { get.new ≡ record get.old { back = get.old.back ++ returned put.number put.sent ∷ [] } }
         ensures prefix { IsPrefix (sent_by put.number get.old.given) put.sent }
     {
         let note = self.note(get);
         self.meet(&mut put, note);
+        self.queue.absorb::<Gather>(&mut get.pass, put.into_pass());
     }
 }

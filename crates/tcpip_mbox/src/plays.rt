@@ -1,8 +1,8 @@
 //! What each step on the queue tells, and how passes are cut and joined.
 ghost use Rattle.std.specs.Prelude.{◌≡◌, ℕ, ◌+◌, ◌≤◌, List, [], ◌∷◌, ◌++◌, length, Option, Some, None, true};
 ghost use mathlib.Core.List.{IsPrefix};
-ghost use Rattle.tcpip_mbox.specs.Letters.{sent_by};
-ghost use Rattle.tcpip_mbox.specs.Views.{nobody, with_one_more, newest, putting, getting, telling, met, sent_one, got_one, with_key};
+ghost use Rattle.tcpip_mbox.specs.Letters.{sent_by, AllOf};
+ghost use Rattle.tcpip_mbox.specs.Views.{nobody, with_one_more, newest, putting, getting, telling, met, gathered, sent_one, got_one, with_key};
 
 use crate::message::Message;
 use crate::view::{Letter, View};
@@ -61,6 +61,15 @@ impl<M, K> Join<View<M, K>> for Meet {
     ghost spent = { nobody };
 }
 
+// The Get takes a Put back.
+pub(crate) struct Gather;
+
+impl<M, K> Join<View<M, K>> for Gather {
+    ghost both = { gathered };
+
+    ghost spent = { nobody };
+}
+
 pub(crate) struct Sent;
 
 impl<M, K> Outcome<Letter<M>, View<M, K>> for Sent {
@@ -78,8 +87,9 @@ impl<M: Message<K>, K> Outcome<Letter<M>, View<M, K>> for Got {
     ghost then = { λ v x w. (w ≡ got_one v x) × (x.from ≤ v.others) × ((key : K) → v.key ≡ Some key → M.fits key x.from (sent_by x.from v.given) x.message) };
 }
 
+// Where the mailbox is empty, all that the Puts which were taken back had put in was given.
 impl<M: Message<K>, K> Lesson<Letter<M>, View<M, K>> for Got {
-    ghost fact = { λ _ _. Unit {0} };
+    ghost fact = { λ v items. AllOf (v.given ++ items) v.back };
 }
 
 pub(crate) struct Told;

@@ -1,5 +1,5 @@
 //! One line's way into the mailbox.
-ghost use Rattle.std.specs.Prelude.{◌≡◌, []};
+ghost use Rattle.std.specs.Prelude.{◌≡◌, [], true, false};
 ghost use Rattle.crossbeam_queue.specs.Passes.{view};
 
 use crate::message::Message;
@@ -29,6 +29,15 @@ impl<M: Message<K>, K> Put<M, K> {
         ensures { result ≡ self.now.number }
     {
         self.number
+    }
+
+    // What the Get takes back.
+    pub(crate) fn into_pass(self) -> Place<M, K>
+        ensures table { (result.table_id ≡ self.table) × (result.me.1 ≡ []) }
+        ensures view { ((view result).key ≡ self.key) × ((view result).puts ≡ true) × ((view result).gets ≡ false) × ((view result).number ≡ self.number) × ((view result).sent ≡ self.sent) }
+    {
+        let Self { pass, number: _ } = self;
+        pass
     }
 }
 

@@ -8,6 +8,12 @@ pub struct Letter<M> {
     pub message: M,
 }
 
+/// A Put that was taken back: its number, and what it had put in. No value of it is made.
+pub struct Returned<M> {
+    pub number: u64,
+    pub sent: LinkedList<M>,
+}
+
 /// What a pass knows.
 pub struct View<M, K> {
     /// What the messages must fit, where the pass knows it.
@@ -25,4 +31,6 @@ pub struct View<M, K> {
     pub gets: bool,
     /// A beginning of what was taken out. All of it, where this pass takes messages out.
     pub given: LinkedList<Letter<M>>,
+    /// The Puts that it took back.
+    pub back: LinkedList<Returned<M>>,
 }

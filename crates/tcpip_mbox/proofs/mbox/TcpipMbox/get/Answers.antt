@@ -1,11 +1,11 @@
 use Rattle.std.proofs.Common.{rules, List, [], ◌∷◌, ◌++◌, ap, subst, ◌∙◌, arith}
 use Rattle.tcpip_mbox.specs.declared.view.Letter.{Letter}
 use Rattle.tcpip_mbox.specs.Letters.{sent_by}
-use Rattle.tcpip_mbox.proofs.Steps.{pops}
+use Rattle.tcpip_mbox.proofs.Steps.{pops, emptied}
 use Rattle.tcpip_mbox.proofs.mbox.TcpipMbox.get.Goals as goal
 
 pub pop_as-requires-clause-rule : goal.pop_as-requires-clause-rule
-pop_as-requires-clause-rule g c = (pops g.M.Message.fits _ _ c.args.self.now.key (search rules) (search rules), λ items views h at. tt)
+pop_as-requires-clause-rule g c = (pops g.M.Message.fits _ _ c.args.self.now.key (search rules) (search rules), emptied g.M.Message.fits _ _ c.args.self.now.key (search rules) (search rules))
 
 pub returns-clause-some : goal.returns-clause-some
 returns-clause-some g c = let told = c.in_ok-letter.ensures.rule in let x = c.in_ok-letter.letter in let same = ap (λ r. r.given) c.get.view_is in (
